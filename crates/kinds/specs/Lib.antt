@@ -1,0 +1,4 @@
+pub mod Kind
+pub mod Groups
+pub mod Numbers
+pub mod Three
