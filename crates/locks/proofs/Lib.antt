@@ -1,0 +1,9 @@
+pub mod Fields
+pub mod Spelled
+pub mod Written
+pub mod Encodings
+pub mod Steps
+pub mod Loops
+pub mod Summed
+pub mod Refusals
+pub mod RefusedLocks
