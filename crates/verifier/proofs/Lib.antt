@@ -1,0 +1,4 @@
+pub mod PairLemmas
+pub mod ShareLemmas
+pub mod FirstLemmas
+pub mod VerdictLemmas
