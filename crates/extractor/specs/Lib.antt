@@ -1,0 +1,4 @@
+pub mod Sums
+pub mod Answers
+pub mod Picks
+pub mod Sizes
