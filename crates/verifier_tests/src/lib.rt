@@ -203,6 +203,33 @@ mod tests {
         )
     }
 
+    // The other rules of a lock: its marks, wires and constants, and nothing behind it.
+    const OTHER_MARK: [u8; 45] =
+        *b"LK\x02\0\0\0\x02\0\0\0\x02\0\0\0\x01MX\0\0\0\0\0\0\0\x01AC\0\0\0\x02\0\0\0\x05OU\0\0\0\x03\0\0\0\x11";
+
+    const OWN_WIRE: [u8; 45] =
+        *b"LK\x02\0\0\0\x02\0\0\0\x02\0\0\0\x01MU\0\0\0\0\0\0\0\x02AC\0\0\0\x02\0\0\0\x05OU\0\0\0\x03\0\0\0\x11";
+
+    const ONE_MORE: [u8; 46] =
+        *b"LK\x02\0\0\0\x02\0\0\0\x02\0\0\0\x01MU\0\0\0\0\0\0\0\x01AC\0\0\0\x02\0\0\0\x05OU\0\0\0\x03\0\0\0\x11\0";
+
+    const NO_RESIDUE: [u8; 45] =
+        *b"LK\x03\0\0\0\x02\0\0\0\x02\0\0\0\x01MU\0\0\0\0\0\0\0\x01AC\0\0\0\x02\x7f\xff\xff\xffOU\0\0\0\x03\0\0\0\x11";
+
+    #[test]
+    fn locks_that_do_not_read() -> Result<(), Fail> {
+        let none = b"none";
+        check(judged(&Sha256, &OTHER_MARK, none, 1, none)? == told(Reason::WrongMark, 0, 15))?;
+        check(judged(&Sha256, &OWN_WIRE, none, 1, none)? == told(Reason::WireTooHigh, 0, 21))?;
+        check(judged(&Sha256, &ONE_MORE, none, 1, none)? == told(Reason::TrailingBytes, 0, 45))?;
+        let mut work1 = [7; 16];
+        let mut work2 = [7; 16];
+        check(
+            verify::<Residue, Sha256>(&Sha256, &NO_RESIDUE, none, 1, none, &mut work1, &mut work2)
+                == told(Reason::UnlawfulConstant, 0, 31),
+        )
+    }
+
     // A lock that does not read, and buffers and picks that are refused before any message is looked at.
     #[test]
     fn refused_before_the_messages(rt: LibcRuntime) -> Result<(), Fail> {
