@@ -1,4 +1,4 @@
-// The protocol as definitions (specs/), and what is proved of them (docs/parts/THEORY.md); here are the types of its outcomes.
+// The protocol as definitions (specs/), and what is proved of them (docs/PROOFS.md); here are the types of its outcomes.
 use faults::Fault;
 use faults::FaultDebug;
 use faults::FaultPartialEq;
