@@ -1,4 +1,6 @@
 // The engine's public face: one place to import from, and the promises that hold of what is imported (docs/PROOFS.md).
+#![tactic(auto)]
+
 ghost use Rattle.theory.specs.Soundness.{Soundness};
 ghost use Rattle.theory.specs.Completeness.{Completeness};
 ghost use Rattle.theory.specs.Hiding.{Hiding};
@@ -16,7 +18,7 @@ pub use locks::lock::whole::read_lock;
 pub use locks::reader::Reader;
 pub use play::{play_on, play_round};
 pub use seals::Sealer;
-pub use sha2::Sha256;
+pub use sha2_256::Sha256;
 pub use sha3::Sha3_256;
 use theory::promises;
 pub use theory::{Extracted, PickFault};

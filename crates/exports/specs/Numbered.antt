@@ -3,7 +3,7 @@ use Rattle.std.specs.Prelude.{â„•, cond, Some, None, Ok, Err, Option, Result, â—
 use Rattle.kinds.specs.Kind.{Kind}
 use Rattle.kinds.specs.Three.{bit_kind, word_kind, residue_kind}
 use Rattle.seals.specs.Sealing.{Sealing}
-use Rattle.sha2.specs.Sha256.{sha256_sealing}
+use Rattle.sha2_256.specs.Sha256.{sha256_sealing}
 use Rattle.sha3.specs.Sha3.{sha3_256_sealing}
 use Rattle.exports.specs.declared.told.Refusal.{Refusal}
 

@@ -12,7 +12,7 @@ use kinds::bit::Bit;
 use kinds::kind::ElementKind;
 use kinds::residue::Residue;
 use kinds::word::Word;
-use sha2::Sha256;
+use sha2_256::Sha256;
 use sha3::Sha3_256;
 use theory::Extracted;
 

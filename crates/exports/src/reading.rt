@@ -16,7 +16,7 @@ use kinds::word::Word;
 use locks::lock::Lock;
 use locks::lock::whole::read_lock;
 use seals::Sealer;
-use sha2::Sha256;
+use sha2_256::Sha256;
 use sha3::Sha3_256;
 
 fn lengths_of<K: ElementKind, S: Sealer>(lock: Lock<'_>) -> ToldLengths

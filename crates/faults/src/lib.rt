@@ -1,4 +1,6 @@
 // Why a call refuses, and where.
+#![tactic(auto)]
+
 ghost use Rattle.std.specs.Prelude.{◌≡◌};
 ghost use Rattle.faults.specs.Numbers.{number_of, fault, NumbersDiffer};
 

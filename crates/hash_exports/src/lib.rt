@@ -1,11 +1,13 @@
 // The sealers for a caller in C: a slice is a pointer and then a length.
+#![tactic(auto)]
+
 ghost use Rattle.std.specs.Prelude.{◌≡◌, length, is_ok};
 ghost use Rattle.seals.specs.Outcome.{seal_answer, seal_left};
-ghost use Rattle.sha2.specs.Sha256.{sha256_sealing};
+ghost use Rattle.sha2_256.specs.Sha256.{sha256_sealing};
 ghost use Rattle.sha3.specs.Sha3.{sha3_256_sealing};
 
 use seals::Sealer;
-use sha2::Sha256;
+use sha2_256::Sha256;
 use sha3::Sha3_256;
 
 // Whether `message` was sealed into `out`, which is as it was if not.

@@ -1,13 +1,15 @@
 // The hashes on a published vector, and their tables by the rules that define them: both by computation.
+#![tactic(auto)]
+
 ghost use Rattle.std.specs.Prelude.{◌≡◌};
-ghost use Rattle.sha2.specs.Sha256.{sha256_of, k, initial};
+ghost use Rattle.sha2_256.specs.Sha256.{sha256_of, k, initial};
 ghost use Rattle.sha3.specs.Keccak.{offsets, rc};
 ghost use Rattle.sha3.specs.Sha3.{sha3_256_of};
 ghost use Rattle.hash_vectors.specs.Published.{abc, abc_sha256, abc_sha3_256};
 ghost use Rattle.hash_vectors.specs.Tables.{cube_roots, square_roots, walked, constants};
 
 use seals::Sealer;
-use sha2::Sha256;
+use sha2_256::Sha256;
 use sha3::Sha3_256;
 
 // The seal of "abc". The definition gives the published digest, and the constants are those of the primes' roots.

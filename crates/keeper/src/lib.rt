@@ -1,4 +1,6 @@
 // A keeper of rounds, which proves that it knows a lock's key: it promises, answers and drops.
+#![tactic(auto)]
+
 ghost use Rattle.std.specs.Prelude.{◌≡◌, ◌*◌, ◌<◌, ◌≤◌, length};
 
 use theory::RoundState;

@@ -1,4 +1,6 @@
 // What a host knows of its store once its keeper is gone; and the keeper's calls on examples.
+#![tactic(auto)]
+
 ghost use Rattle.std.specs.Prelude.{◌≡◌, length};
 ghost use Rattle.theory.specs.Keeper.{made_from, drop_result, after_drop, after_answer};
 

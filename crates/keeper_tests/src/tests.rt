@@ -4,7 +4,7 @@ use keeper::Keeper;
 use kinds::word::Word;
 use samples::worked::{KEY, WORDS, tape};
 use seals::Sealer;
-use sha2::Sha256;
+use sha2_256::Sha256;
 use std::alloc::Global;
 use std::process::Abort;
 use std::test::Fail;

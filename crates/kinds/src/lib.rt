@@ -1,4 +1,6 @@
 // Element kinds: the interface, three kinds, and what follows for every kind.
+#![tactic(auto)]
+
 pub mod bit;
 pub mod kind;
 pub mod residue;

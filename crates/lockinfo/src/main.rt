@@ -1,4 +1,6 @@
 // Reads a lock from standard input and prints what it is, or why it is refused.
+#![tactic(auto)]
+
 use report::report;
 use std::io::Read;
 

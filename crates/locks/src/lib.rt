@@ -1,4 +1,6 @@
 // Locks: the records in their bytes, the reader with every refusal, and the lengths that follow from the counts.
+#![tactic(auto)]
+
 ghost use Rattle.locks.specs.Encoding.{ReadingLaw};
 ghost use Rattle.locks.specs.Refusing.{RefusalLaw};
 

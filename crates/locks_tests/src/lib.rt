@@ -1,4 +1,6 @@
 // Locks and what is told of them.
+#![tactic(auto)]
+
 pub mod small;
 
 #[cfg(test)]

@@ -1,4 +1,6 @@
 // Bytes and words of a block: the pieces that the hashes share.
+#![tactic(auto)]
+
 ghost use Rattle.std.specs.Prelude.{◌≡◌, ◌+◌, ◌*◌, ◌≤◌, length};
 ghost use Rattle.std.specs.List.{flat_map};
 ghost use Rattle.parts.specs.Words.{be32, le64, be32_at, le64_at};

@@ -1,4 +1,6 @@
 // A round is written: three branches of a run of the key, their views in the keeper's store, and the first message.
+#![tactic(auto)]
+
 mod first;
 mod fronts;
 mod gate;

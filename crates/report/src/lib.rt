@@ -1,4 +1,6 @@
 // The text that tells of a lock: what it is, or why it is refused.
+#![tactic(auto)]
+
 ghost use Rattle.std.specs.Prelude.{◌≡◌, ◌++◌, IfOk, string_bytes};
 ghost use Rattle.faults.specs.Outcomes.{map_ok};
 ghost use Rattle.locks.specs.Reading.{lock_of};

@@ -1,4 +1,6 @@
 // Whole rounds: what a keeper promises and answers, a verifier accepts, and three answers give the key back.
+#![tactic(auto)]
+
 #[cfg(test)]
 mod tests {
     use extractor::extract::extract;
@@ -11,7 +13,7 @@ mod tests {
     use samples::built::built;
     use samples::worked::{BITS, KEY, RESIDUES, WORDS, bit_tape, tape};
     use seals::Sealer;
-    use sha2::Sha256;
+    use sha2_256::Sha256;
     use sha3::Sha3_256;
     use std::alloc::{AllocError, Global};
     use std::process::Abort;

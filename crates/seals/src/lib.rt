@@ -1,4 +1,6 @@
 // Sealers: what commits to a message by a value of fixed length.
+#![tactic(auto)]
+
 ghost use Rattle.std.specs.Prelude.{◌≡◌, length};
 ghost use Rattle.seals.specs.Sealing.{Sealing, Sound};
 ghost use Rattle.seals.specs.Outcome.{admitted, seal_answer, seal_left};

@@ -1,9 +1,11 @@
 // The sealers at their refusals; the program `vectors` has their digests.
+#![tactic(auto)]
+
 #[cfg(test)]
 mod tests {
     use faults::{Fault, Reason};
     use seals::Sealer;
-    use sha2::Sha256;
+    use sha2_256::Sha256;
     use sha3::Sha3_256;
     use std::process::Abort;
 

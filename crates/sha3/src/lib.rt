@@ -1,4 +1,6 @@
 // SHA3-256 (FIPS 202) as a sealer.
+#![tactic(auto)]
+
 ghost use Rattle.std.specs.Prelude.{◌≡◌, ◌*◌, ◌%◌, ◌≤◌, ◌++◌, length};
 ghost use Rattle.parts.specs.Blocks.{over_blocks};
 ghost use Rattle.sha3.specs.Sha3.{xored, absorbed, padding, sha3_256_of, sha3_256_sealing};

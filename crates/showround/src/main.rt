@@ -1,4 +1,6 @@
 // Plays a round from lock to extracted key and prints each step: with each sealer, at every pick, and once with a forged product.
+#![tactic(auto)]
+
 use engine::{Bit, ElementKind, Residue, Sha3_256, Sha256, Word, promises_stand};
 use example::Example;
 use report::report;

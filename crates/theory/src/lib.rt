@@ -1,4 +1,6 @@
 // The protocol as definitions (specs/), and what is proved of them (docs/PROOFS.md); here are the types of its outcomes.
+#![tactic(auto)]
+
 use faults::Fault;
 
 pub mod laws;

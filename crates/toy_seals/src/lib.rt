@@ -1,4 +1,6 @@
 // Sealers that forget most of a message, for tests alone: unlike messages share a seal.
+#![tactic(auto)]
+
 ghost use Rattle.std.specs.Prelude.{◌≡◌};
 ghost use Rattle.toy_seals.specs.Toy.{last_of, toy};
 ghost use Rattle.std.proofs.Common.{lit≤};

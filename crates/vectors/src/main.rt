@@ -1,4 +1,5 @@
 // Compares published digests, the longest view and the sizes of stores with what the engine gives, and prints each comparison.
+#![tactic(auto)]
 
 mod digests;
 mod hashes;

@@ -1,4 +1,6 @@
 // The verifier: a first message and an answer, accepted or refused.
+#![tactic(auto)]
+
 mod figure;
 mod firsts;
 mod formed;

@@ -1,4 +1,6 @@
 // The verifier on the worked word lock, on one case for each of its faults, and on damaged messages.
+#![tactic(auto)]
+
 #[cfg(test)]
 mod tests {
     use faults::{Fault, Reason};
@@ -9,7 +11,7 @@ mod tests {
         FIVE, NO_RESIDUE, ONE_MORE, OTHER_MARK, OTHER_TARGET, OWN_WIRE, RESIDUES, WORDS,
     };
     use seals::Sealer;
-    use sha2::Sha256;
+    use sha2_256::Sha256;
     use sha3::Sha3_256;
     use std::alloc::Global;
     use std::process::Abort;

@@ -1,6 +1,6 @@
 use Rattle.std.proofs.Common.{◌≡◌, refl, ◌∙◌}
 use Rattle.parts.specs.Blocks.{over_blocks}
-use Rattle.sha2.specs.Sha256.{padding, padded, schedule, rounds, compressed, sha256_of}
+use Rattle.sha2_256.specs.Sha256.{padding, padded, schedule, rounds, compressed, sha256_of}
 use Rattle.hash_vectors.specs.Published.{abc, abc_sha256}
 use Rattle.hash_vectors.proofs.sha256_abc.Goals as goal
 

@@ -4,7 +4,7 @@ use keeper::Keeper;
 use samples::messages::{HONEST, answer, first};
 use samples::worked::tape;
 use seals::Sealer;
-use sha2::Sha256;
+use sha2_256::Sha256;
 use sha3::Sha3_256;
 use std::alloc::Global;
 use std::process::Abort;

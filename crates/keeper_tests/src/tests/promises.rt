@@ -9,7 +9,7 @@ use samples::worked::{
     FIVE, KEY, NO_RESIDUE, ONE_MORE, OTHER_MARK, OWN_WIRE, RESIDUES, WORDS, tape,
 };
 use seals::Sealer;
-use sha2::Sha256;
+use sha2_256::Sha256;
 use std::alloc::Global;
 use std::process::Abort;
 use std::test::Fail;

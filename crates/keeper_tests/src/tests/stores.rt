@@ -4,7 +4,7 @@ use faults::{Fault, Reason};
 use keeper::Keeper;
 use kinds::bit::Bit;
 use samples::built::built;
-use sha2::Sha256;
+use sha2_256::Sha256;
 use std::alloc::Global;
 use std::process::Abort;
 use std::test::Fail;

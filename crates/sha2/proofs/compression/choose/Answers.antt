@@ -1,6 +1,0 @@
-use Rattle.std.proofs.Common.{arith}
-use Rattle.sha2.proofs.Choice.{choice}
-use Rattle.sha2.proofs.compression.choose.Goals as goal
-
-pub returns : goal.returns
-returns c = choice c.args.x c.args.y c.args.z (omega arith) (omega arith) (omega arith)
