@@ -28,7 +28,7 @@ pub fn products_of(gate: GateRecord<'_>) -> usize
 
 // A branch's share of the product a × b: a × b + a' × b + a × b' + r − r', where the primed ones are the next branch's.
 fn product_share<K: ElementKind>(a: K, b: K, next_a: K, next_b: K, mask: K, next_mask: K) -> K
-    ensures { row result ≡ share (ops_of kind) (row a) (row b) (row next_a) (row next_b) (row mask) (row next_mask) }
+    ensures { K.row result ≡ share (ops_of K.kind) (K.row a) (K.row b) (K.row next_a) (K.row next_b) (K.row mask) (K.row next_mask) }
 {
     a.product(b)
         .sum(next_a.product(b))
@@ -39,8 +39,8 @@ fn product_share<K: ElementKind>(a: K, b: K, next_a: K, next_b: K, mask: K, next
 
 // Only branch 1 adds a constant.
 fn plus_constant<K: ElementKind>(branch: Branch, x: K, constant: &[u8]) -> K
-    requires { Lawful kind constant.now }
-    ensures { row result ≡ plus_constant (ops_of kind) (the_branch branch) (row x) constant.now }
+    requires { Lawful K.kind constant.now }
+    ensures { K.row result ≡ plus_constant (ops_of K.kind) (the_branch branch) (K.row x) constant.now }
 {
     match branch {
         Branch::One => x.sum(lawful_row(constant)),
@@ -50,10 +50,10 @@ fn plus_constant<K: ElementKind>(branch: Branch, x: K, constant: &[u8]) -> K
 
 // What a gate gives on whole values.
 fn plain_value<K: ElementKind>(work: &[u8], own: usize, gate: GateRecord<'_>) -> K
-    requires fit { GateFor kind own (gate_of gate) }
-    requires within { own * kind.width ≤ length work.now }
-    requires lawful { All (Lawful kind) (wires_in kind own work.now) }
-    ensures { row result ≡ value (ops_of kind) (wires_in kind own work.now) (gate_of gate.entry) }
+    requires fit { GateFor K.kind own (gate_of gate) }
+    requires within { own * K.kind.width ≤ length work.now }
+    requires lawful { All (Lawful K.kind) (wires_in K.kind own work.now) }
+    ensures { K.row result ≡ value (ops_of K.kind) (wires_in K.kind own work.now) (gate_of gate.entry) }
 {
     match gate {
         GateRecord::AddConstant { wire: a, constant } => wire::<K>(work, own, a).sum(lawful_row(
@@ -71,10 +71,10 @@ fn plain_value<K: ElementKind>(work: &[u8], own: usize, gate: GateRecord<'_>) ->
 
 // Writes wire `own` of a plain run.
 pub fn plain_gate<K: ElementKind>(work: &mut [u8], own: usize, gate: GateRecord<'_>)
-    requires fit { GateFor kind own (gate_of gate) }
-    requires within { suc own * kind.width ≤ length work.old }
-    requires lawful { All (Lawful kind) (wires_in kind own work.old) }
-    ensures { wires_in kind (suc own) work.new ≡ wires_in kind own work.old ++ (value (ops_of kind) (wires_in kind own work.old) (gate_of gate.entry) ∷ []) }
+    requires fit { GateFor K.kind own (gate_of gate) }
+    requires within { suc own * K.kind.width ≤ length work.old }
+    requires lawful { All (Lawful K.kind) (wires_in K.kind own work.old) }
+    ensures { wires_in K.kind (suc own) work.new ≡ wires_in K.kind own work.old ++ (value (ops_of K.kind) (wires_in K.kind own work.old) (gate_of gate.entry) ∷ []) }
 {
     let x: K = plain_value(work, own, gate);
     add_wire(work, own, x);
@@ -89,12 +89,12 @@ pub fn right_product<K: ElementKind>(
     mask: K,
     next_mask: K,
 ) -> K
-    requires fit { GateFor kind own (gate_of gate) }
-    requires within { own * kind.width ≤ length work.now }
-    requires nextwithin { own * kind.width ≤ length next_work.now }
-    requires lawful { All (Lawful kind) (wires_in kind own work.now) }
-    requires nextlawful { All (Lawful kind) (wires_in kind own next_work.now) }
-    ensures { row result ≡ right (ops_of kind) (gate_of gate.entry) (wires_in kind own work.now) (row mask ∷ []) (wires_in kind own next_work.now) (row next_mask ∷ []) }
+    requires fit { GateFor K.kind own (gate_of gate) }
+    requires within { own * K.kind.width ≤ length work.now }
+    requires nextwithin { own * K.kind.width ≤ length next_work.now }
+    requires lawful { All (Lawful K.kind) (wires_in K.kind own work.now) }
+    requires nextlawful { All (Lawful K.kind) (wires_in K.kind own next_work.now) }
+    ensures { K.row result ≡ right (ops_of K.kind) (gate_of gate.entry) (wires_in K.kind own work.now) (K.row mask ∷ []) (wires_in K.kind own next_work.now) (K.row next_mask ∷ []) }
 {
     let GateRecord::Multiply { left, right } = gate else {
         return K::zero();
@@ -117,10 +117,10 @@ fn branch_value<K: ElementKind>(
     gate: GateRecord<'_>,
     product: K,
 ) -> K
-    requires fit { GateFor kind own (gate_of gate) }
-    requires within { own * kind.width ≤ length work.now }
-    requires lawful { All (Lawful kind) (wires_in kind own work.now) }
-    ensures { row result ≡ local (ops_of kind) (the_branch branch) (wires_in kind own work.now) (row product) (gate_of gate.entry) }
+    requires fit { GateFor K.kind own (gate_of gate) }
+    requires within { own * K.kind.width ≤ length work.now }
+    requires lawful { All (Lawful K.kind) (wires_in K.kind own work.now) }
+    ensures { K.row result ≡ local (ops_of K.kind) (the_branch branch) (wires_in K.kind own work.now) (K.row product) (gate_of gate.entry) }
 {
     match gate {
         GateRecord::AddConstant { wire: a, constant } => plus_constant(
@@ -144,10 +144,10 @@ pub fn branch_gate<K: ElementKind>(
     gate: GateRecord<'_>,
     product: K,
 )
-    requires fit { GateFor kind own (gate_of gate) }
-    requires within { suc own * kind.width ≤ length work.old }
-    requires lawful { All (Lawful kind) (wires_in kind own work.old) }
-    ensures { wires_in kind (suc own) work.new ≡ wires_in kind own work.old ++ (local (ops_of kind) (the_branch branch) (wires_in kind own work.old) (row product) (gate_of gate.entry) ∷ []) }
+    requires fit { GateFor K.kind own (gate_of gate) }
+    requires within { suc own * K.kind.width ≤ length work.old }
+    requires lawful { All (Lawful K.kind) (wires_in K.kind own work.old) }
+    ensures { wires_in K.kind (suc own) work.new ≡ wires_in K.kind own work.old ++ (local (ops_of K.kind) (the_branch branch) (wires_in K.kind own work.old) (K.row product) (gate_of gate.entry) ∷ []) }
 {
     let x: K = branch_value(branch, work, own, gate, product);
     add_wire(work, own, x);

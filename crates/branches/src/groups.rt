@@ -16,16 +16,16 @@ use kinds::kind::ElementKind;
 
 // The bytes of a group of n elements.
 pub fn group_length<K: ElementKind>(n: usize) -> usize
-    requires { group_length kind n < 2 ^ 64 }
-    ensures { result ≡ group_length kind n }
+    requires { group_length K.kind n < 2 ^ 64 }
+    ensures { result ≡ group_length K.kind n }
 {
     n * K::row_length()
 }
 
 // Where element i begins in its group.
 pub fn element_at<K: ElementKind>(i: usize) -> usize
-    requires { element_at kind i < 2 ^ 64 }
-    ensures { result ≡ element_at kind i }
+    requires { element_at K.kind i < 2 ^ 64 }
+    ensures { result ≡ element_at K.kind i }
 {
     i * K::row_length()
 }
@@ -33,9 +33,9 @@ pub fn element_at<K: ElementKind>(i: usize) -> usize
 // Element i of the group of n at the front of the bytes.
 pub fn element<K: ElementKind>(bytes: &[u8], n: usize, i: usize) -> K
     requires below { i < n }
-    requires within { group_length kind n ≤ length bytes.now }
-    requires lawful { All (Lawful kind) (group kind n bytes.now) }
-    ensures { row result ≡ read (ops_of kind) (group kind n bytes.now) i }
+    requires within { group_length K.kind n ≤ length bytes.now }
+    requires lawful { All (Lawful K.kind) (group K.kind n bytes.now) }
+    ensures { K.row result ≡ read (ops_of K.kind) (group K.kind n bytes.now) i }
 {
     row_of(bytes, element_at::<K>(i))
 }
@@ -43,9 +43,9 @@ pub fn element<K: ElementKind>(bytes: &[u8], n: usize, i: usize) -> K
 // Writes element i of the group of n at the front of the bytes; what lies behind the group stays.
 pub fn put_element<K: ElementKind>(bytes: &mut [u8], n: usize, i: usize, x: K)
     requires below { i < n }
-    requires within { group_length kind n ≤ length bytes.old }
-    ensures put { group kind n bytes.new ≡ slice_set (group kind n bytes.old) i (row x) }
-    ensures behind { drop (group_length kind n) bytes.new ≡ drop (group_length kind n) bytes.old }
+    requires within { group_length K.kind n ≤ length bytes.old }
+    ensures put { group K.kind n bytes.new ≡ slice_set (group K.kind n bytes.old) i (K.row x) }
+    ensures behind { drop (group_length K.kind n) bytes.new ≡ drop (group_length K.kind n) bytes.old }
 {
     write_row(bytes, element_at::<K>(i), x);
 }
@@ -53,16 +53,16 @@ pub fn put_element<K: ElementKind>(bytes: &mut [u8], n: usize, i: usize, x: K)
 // Is element i lawful?
 fn is_lawful<K: ElementKind>(bytes: &[u8], n: usize, i: usize) -> bool
     requires below { i < n }
-    requires within { group_length kind n ≤ length bytes.now }
-    ensures { result ≡ kind.lawful (read (ops_of kind) (group kind n bytes.now) i) }
+    requires within { group_length K.kind n ≤ length bytes.now }
+    ensures { result ≡ K.kind.lawful (read (ops_of K.kind) (group K.kind n bytes.now) i) }
 {
     read_row::<K>(bytes, element_at::<K>(i)).is_some()
 }
 
 // The first unlawful element of a group.
 pub fn first_unlawful<K: ElementKind>(bytes: &[u8], n: usize) -> Option<usize>
-    requires { group_length kind n ≤ length bytes.now }
-    ensures { result ≡ unlawful kind (group kind n bytes.now) }
+    requires { group_length K.kind n ≤ length bytes.now }
+    ensures { result ≡ unlawful K.kind (group K.kind n bytes.now) }
 {
     for i in 0..n {
         if !is_lawful::<K>(bytes, n, i) {
@@ -79,9 +79,9 @@ pub fn lawful_group<K: ElementKind>(
     reason: Reason,
     place: usize,
 ) -> Result<(), Fault>
-    requires within { group_length kind n ≤ length bytes.now }
-    requires near { place + group_length kind n < 2 ^ 64 }
-    ensures { result ≡ lawful_at kind reason place (group kind n bytes.now) }
+    requires within { group_length K.kind n ≤ length bytes.now }
+    requires near { place + group_length K.kind n < 2 ^ 64 }
+    ensures { result ≡ lawful_at K.kind reason place (group K.kind n bytes.now) }
 {
     match first_unlawful::<K>(bytes, n) {
         Some(i) => Err(Fault::at(reason, place + element_at::<K>(i))),
@@ -91,10 +91,10 @@ pub fn lawful_group<K: ElementKind>(
 
 // The elements of a group as the first wires of a work space.
 pub fn wires_from_group<K: ElementKind>(bytes: &[u8], n: usize, work: &mut [u8])
-    requires within { group_length kind n ≤ length bytes.now }
-    requires room { n * kind.width ≤ length work.old }
-    requires lawful { All (Lawful kind) (group kind n bytes.now) }
-    ensures { wires_in kind n work.new ≡ group kind n bytes.now }
+    requires within { group_length K.kind n ≤ length bytes.now }
+    requires room { n * K.kind.width ≤ length work.old }
+    requires lawful { All (Lawful K.kind) (group K.kind n bytes.now) }
+    ensures { wires_in K.kind n work.new ≡ group K.kind n bytes.now }
 {
     for i in 0..n {
         let x: K = element(bytes, n, i);

@@ -29,10 +29,10 @@ pub struct ViewPlaces {
 }
 
 pub fn view_places<K: ElementKind>(lock: Lock<'_>) -> ViewPlaces
-    requires { Stands kind lock }
-    ensures masks { result.masks ≡ masks_at kind (circuit_of kind lock.entry) }
-    ensures products { result.products ≡ products_at kind (circuit_of kind lock.entry) }
-    ensures within { result.products + group_length kind lock.entry.products ≤ 65535 }
+    requires { Stands K.kind lock }
+    ensures masks { result.masks ≡ masks_at K.kind (circuit_of K.kind lock.entry) }
+    ensures products { result.products ≡ products_at K.kind (circuit_of K.kind lock.entry) }
+    ensures within { result.products + group_length K.kind lock.entry.products ≤ 65535 }
 {
     let masks = BLIND_LENGTH + group_length::<K>(lock.inputs as usize);
     ViewPlaces {
@@ -43,12 +43,12 @@ pub fn view_places<K: ElementKind>(lock: Lock<'_>) -> ViewPlaces
 
 // The parts of a view of a lock.
 pub fn view_parts<'a, K: ElementKind>(lock: Lock<'_>, view: &'a [u8]) -> ViewParts<'a>
-    requires stands { Stands kind lock }
-    requires sized { length view.now ≡ view_length kind lock.inputs lock.products }
-    ensures parts { view_in kind lock.entry.inputs lock.entry.products result ≡ (view_of kind (circuit_of kind lock.entry) view.now).1 }
-    ensures shares { group_length kind lock.entry.inputs ≤ length result.shares.now }
-    ensures masks { group_length kind lock.entry.products ≤ length result.masks.now }
-    ensures products { group_length kind lock.entry.products ≤ length result.products.now }
+    requires stands { Stands K.kind lock }
+    requires sized { length view.now ≡ view_length K.kind lock.inputs lock.products }
+    ensures parts { view_in K.kind lock.entry.inputs lock.entry.products result ≡ (view_of K.kind (circuit_of K.kind lock.entry) view.now).1 }
+    ensures shares { group_length K.kind lock.entry.inputs ≤ length result.shares.now }
+    ensures masks { group_length K.kind lock.entry.products ≤ length result.masks.now }
+    ensures products { group_length K.kind lock.entry.products ≤ length result.products.now }
 {
     let ViewPlaces { masks, products } = view_places::<K>(lock);
     ViewParts {
@@ -60,11 +60,11 @@ pub fn view_parts<'a, K: ElementKind>(lock: Lock<'_>, view: &'a [u8]) -> ViewPar
 
 // The two views of an answer: of the picked branch, and of the one after it.
 pub fn answer_views<'a, K: ElementKind>(lock: Lock<'_>, answer: &'a [u8]) -> (&'a [u8], &'a [u8])
-    requires stands { Stands kind lock }
-    requires sized { length answer.now ≡ answer_length kind lock.inputs lock.products }
-    ensures picked { result.0.now ≡ picked_view kind (circuit_of kind lock.entry) answer.now }
-    ensures following { result.1.now ≡ next_view kind (circuit_of kind lock.entry) answer.now }
-    ensures sizes { (length result.0.now ≡ view_length kind lock.entry.inputs lock.entry.products) × (length result.1.now ≡ view_length kind lock.entry.inputs lock.entry.products) }
+    requires stands { Stands K.kind lock }
+    requires sized { length answer.now ≡ answer_length K.kind lock.inputs lock.products }
+    ensures picked { result.0.now ≡ picked_view K.kind (circuit_of K.kind lock.entry) answer.now }
+    ensures following { result.1.now ≡ next_view K.kind (circuit_of K.kind lock.entry) answer.now }
+    ensures sizes { (length result.0.now ≡ view_length K.kind lock.entry.inputs lock.entry.products) × (length result.1.now ≡ view_length K.kind lock.entry.inputs lock.entry.products) }
 {
     let end = 3 + lock.view_length::<K>();
     (&answer[3..end], &answer[end..])

@@ -15,17 +15,17 @@ use locks::records::{GateRecord, OutputRecord};
 
 // The lock that the bytes hold, ready to be walked.
 pub fn open_lock<'a, K: ElementKind>(bytes: &'a [u8]) -> Result<Lock<'a>, Fault>
-    ensures outcome { map_ok (circuit_of kind) result ≡ lock_of kind bytes.now }
-    ensures stands { IfOk result (λ l. Stands kind l) }
+    ensures outcome { map_ok (circuit_of K.kind) result ≡ lock_of K.kind bytes.now }
+    ensures stands { IfOk result (λ l. Stands K.kind l) }
 {
     read_lock::<K>(bytes)
 }
 
 // The gate record where a reader stands, which is passed.
 pub fn next_gate<'a, K: ElementKind>(reader: &mut Reader<'a>) -> GateRecord<'a>
-    requires { is_ok (gate_in kind (standing reader.old).at (standing reader.old).rest) ≡ true }
-    ensures gate { gate_in kind (standing reader.old).at (standing reader.old).rest ≡ Ok (gate_of result) }
-    ensures stands { standing reader.new ≡ behind (gate_size kind (gate_of result)) (standing reader.old) }
+    requires { is_ok (gate_in K.kind (standing reader.old).at (standing reader.old).rest) ≡ true }
+    ensures gate { gate_in K.kind (standing reader.old).at (standing reader.old).rest ≡ Ok (gate_of result) }
+    ensures stands { standing reader.new ≡ behind (gate_size K.kind (gate_of result)) (standing reader.old) }
 {
     match reader.gate::<K>() {
         Ok(gate) => gate,
@@ -35,9 +35,9 @@ pub fn next_gate<'a, K: ElementKind>(reader: &mut Reader<'a>) -> GateRecord<'a>
 
 // The output record where a reader stands, which is passed.
 pub fn next_output<'a, K: ElementKind>(reader: &mut Reader<'a>) -> OutputRecord<'a>
-    requires { is_ok (output_in kind (standing reader.old).at (standing reader.old).rest) ≡ true }
-    ensures output { output_in kind (standing reader.old).at (standing reader.old).rest ≡ Ok (output_of result) }
-    ensures stands { standing reader.new ≡ behind (output_size kind) (standing reader.old) }
+    requires { is_ok (output_in K.kind (standing reader.old).at (standing reader.old).rest) ≡ true }
+    ensures output { output_in K.kind (standing reader.old).at (standing reader.old).rest ≡ Ok (output_of result) }
+    ensures stands { standing reader.new ≡ behind (output_size K.kind) (standing reader.old) }
 {
     match reader.output::<K>() {
         Ok(output) => output,
@@ -47,8 +47,8 @@ pub fn next_output<'a, K: ElementKind>(reader: &mut Reader<'a>) -> OutputRecord<
 
 // In front of a lock's outputs: they end with the bytes.
 pub fn outputs_reader<'a, K: ElementKind>(lock: Lock<'a>) -> Reader<'a>
-    requires { lock.outputs * output_size kind ≤ length (record_bytes lock) }
-    ensures { standing result ≡ outputs_place kind lock.entry }
+    requires { lock.outputs * output_size K.kind ≤ length (record_bytes lock) }
+    ensures { standing result ≡ outputs_place K.kind lock.entry }
 {
     let size = lock.outputs as usize * (6 + K::row_length());
     Reader::over(&lock.records[lock.records.len() - size..])

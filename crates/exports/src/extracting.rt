@@ -27,8 +27,8 @@ fn extract_as<'a, K: ElementKind>(
     work2: &mut [u8],
     key: &mut [u8],
 ) -> Result<Extracted, Refusal>
-    ensures outcome { result ≡ extract_as sealer lock.now first.now answer1.now answer2.now answer3.now (length work1.old) (length work2.old) key.old kind }
-    ensures key { key.new ≡ key_as sealer lock.now first.now answer1.now answer2.now answer3.now (length work1.old) (length work2.old) key.old kind }
+    ensures outcome { result ≡ extract_as sealer lock.now first.now answer1.now answer2.now answer3.now (length work1.old) (length work2.old) key.old K.kind }
+    ensures key { key.new ≡ key_as sealer lock.now first.now answer1.now answer2.now answer3.now (length work1.old) (length work2.old) key.old K.kind }
     ensures cleared { work1.new ≡ work_after work1.old }
     ensures nextcleared { work2.new ≡ work_after work2.old }
 {

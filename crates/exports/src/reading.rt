@@ -46,7 +46,7 @@ fn lengths<K: ElementKind, S: Sealer>(lock: &[u8]) -> Result<ToldLengths, Fault>
 }
 
 fn read_as<K: ElementKind>(sealer: u8, lock: &[u8]) -> Result<ToldLengths, Refusal>
-    ensures { result ≡ read_as sealer lock.now kind }
+    ensures { result ≡ read_as sealer lock.now K.kind }
 {
     match sealer {
         1 => told_by(lengths::<K, Sha256>(lock)),

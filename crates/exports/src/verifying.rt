@@ -24,7 +24,7 @@ fn verify_as<K: ElementKind>(
     work1: &mut [u8],
     work2: &mut [u8],
 ) -> Result<(), Refusal>
-    ensures outcome { result ≡ verify_as sealer lock.now first.now pick answer.now (length work1.old) (length work2.old) kind }
+    ensures outcome { result ≡ verify_as sealer lock.now first.now pick answer.now (length work1.old) (length work2.old) K.kind }
     ensures cleared { work1.new ≡ work_after work1.old }
     ensures nextcleared { work2.new ≡ work_after work2.old }
 {

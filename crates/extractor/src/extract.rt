@@ -29,13 +29,13 @@ fn accepted<K: ElementKind, S: Sealer>(
     work1: &mut [u8],
     work2: &mut [u8],
 ) -> Result<(), PickFault>
-    requires stands { Stands kind lock }
-    requires sealable { view_length kind lock.inputs lock.products ≤ sealing.longest }
-    requires firstsized { length first.now ≡ first_length kind lock.outputs sealing.size }
-    requires sized { Sized kind lock answers }
-    requires room { work_length kind lock.inputs lock.gates ≤ length work1.old }
-    requires nextroom { work_length kind lock.inputs lock.gates ≤ length work2.old }
-    ensures { result ≡ all_right kind sealing (circuit_of kind lock.entry) first.now (answers_of answers.entry) }
+    requires stands { Stands K.kind lock }
+    requires sealable { view_length K.kind lock.inputs lock.products ≤ S.sealing.longest }
+    requires firstsized { length first.now ≡ first_length K.kind lock.outputs S.sealing.size }
+    requires sized { Sized K.kind lock answers }
+    requires room { work_length K.kind lock.inputs lock.gates ≤ length work1.old }
+    requires nextroom { work_length K.kind lock.inputs lock.gates ≤ length work2.old }
+    ensures { result ≡ all_right K.kind S.sealing (circuit_of K.kind lock.entry) first.now (answers_of answers.entry) }
 {
     at_pick(
         messages_right::<K, S>(sealer, lock, first, Branch::One, answers.one, work1, work2),
@@ -69,8 +69,8 @@ fn outcome<K: ElementKind, S: Sealer>(
     work2: &mut [u8],
     key: &mut [u8],
 ) -> Result<Extracted, PickFault>
-    ensures outcome { result ≡ extracted kind sealing lock.now first.now (answers_of answers.entry) (length work1.old) (length work2.old) (length key.old) }
-    ensures key { key.new ≡ key_after kind sealing lock.now first.now (answers_of answers.entry) (length work1.old) (length work2.old) key.old }
+    ensures outcome { result ≡ extracted K.kind S.sealing lock.now first.now (answers_of answers.entry) (length work1.old) (length work2.old) (length key.old) }
+    ensures key { key.new ≡ key_after K.kind S.sealing lock.now first.now (answers_of answers.entry) (length work1.old) (length work2.old) key.old }
 {
     let lock = at_pick(open_lock::<K>(lock), 0)?;
     let sizes = sizes_right::<K, S>(
@@ -100,8 +100,8 @@ pub fn extract<'a, K: ElementKind, S: Sealer>(
     work2: &mut [u8],
     key: &mut [u8],
 ) -> Result<Extracted, PickFault>
-    ensures outcome { result ≡ extracted kind sealing lock.now first.now (by_branch answer1.now answer2.now answer3.now) (length work1.old) (length work2.old) (length key.old) }
-    ensures key { key.new ≡ key_after kind sealing lock.now first.now (by_branch answer1.now answer2.now answer3.now) (length work1.old) (length work2.old) key.old }
+    ensures outcome { result ≡ extracted K.kind S.sealing lock.now first.now (by_branch answer1.now answer2.now answer3.now) (length work1.old) (length work2.old) (length key.old) }
+    ensures key { key.new ≡ key_after K.kind S.sealing lock.now first.now (by_branch answer1.now answer2.now answer3.now) (length work1.old) (length work2.old) key.old }
     ensures cleared { work1.new ≡ work_after work1.old }
     ensures nextcleared { work2.new ≡ work_after work2.old }
 {

@@ -17,11 +17,11 @@ pub(crate) fn write_key<K: ElementKind>(
     n: usize,
     key: &mut [u8],
 )
-    requires first { (group_length kind n ≤ length first.now) × (All (Lawful kind) (group kind n first.now)) }
-    requires second { (group_length kind n ≤ length second.now) × (All (Lawful kind) (group kind n second.now)) }
-    requires third { (group_length kind n ≤ length third.now) × (All (Lawful kind) (group kind n third.now)) }
-    requires sized { length key.old ≡ group_length kind n }
-    ensures { key.new ≡ group_bytes kind (sums_in kind n first.now second.now third.now) }
+    requires first { (group_length K.kind n ≤ length first.now) × (All (Lawful K.kind) (group K.kind n first.now)) }
+    requires second { (group_length K.kind n ≤ length second.now) × (All (Lawful K.kind) (group K.kind n second.now)) }
+    requires third { (group_length K.kind n ≤ length third.now) × (All (Lawful K.kind) (group K.kind n third.now)) }
+    requires sized { length key.old ≡ group_length K.kind n }
+    ensures { key.new ≡ group_bytes K.kind (sums_in K.kind n first.now second.now third.now) }
 {
     for i in 0..n {
         let a: K = element(first, n, i);

@@ -20,9 +20,9 @@ use theory::Extracted;
 
 // The lowest branch whose two copies differ, and where; if there is none, a key.
 fn compare<K: ElementKind, S: Sealer>(lock: Lock<'_>, answers: Answers<'_>) -> Extracted
-    requires stands { Stands kind lock }
-    requires sized { Sized kind lock answers }
-    ensures { result ≡ compared kind sealing (circuit_of kind lock.entry) (answers_of answers.entry) }
+    requires stands { Stands K.kind lock }
+    requires sized { Sized K.kind lock answers }
+    ensures { result ≡ compared K.kind S.sealing (circuit_of K.kind lock.entry) (answers_of answers.entry) }
 {
     let (one, two_again) = answer_views::<K>(lock, answers.one);
     let (two, three_again) = answer_views::<K>(lock, answers.two);
@@ -33,11 +33,11 @@ fn compare<K: ElementKind, S: Sealer>(lock: Lock<'_>, answers: Answers<'_>) -> E
 
 // Writes the sums of the shares in the views that the picks opened first.
 fn give_key<K: ElementKind, S: Sealer>(lock: Lock<'_>, answers: Answers<'_>, key: &mut [u8])
-    requires stands { Stands kind lock }
-    requires sized { Sized kind lock answers }
-    requires lawful { SharesLawful kind lock answers }
-    requires room { length key.old ≡ key_length kind lock.inputs }
-    ensures { key.new ≡ group_bytes kind (key_from kind sealing (circuit_of kind lock.entry) (answers_of answers.entry)) }
+    requires stands { Stands K.kind lock }
+    requires sized { Sized K.kind lock answers }
+    requires lawful { SharesLawful K.kind lock answers }
+    requires room { length key.old ≡ key_length K.kind lock.inputs }
+    ensures { key.new ≡ group_bytes K.kind (key_from K.kind S.sealing (circuit_of K.kind lock.entry) (answers_of answers.entry)) }
 {
     let one = view_parts::<K>(lock, answer_views::<K>(lock, answers.one).0);
     let two = view_parts::<K>(lock, answer_views::<K>(lock, answers.two).0);
@@ -57,12 +57,12 @@ pub(crate) fn give<K: ElementKind, S: Sealer>(
     answers: Answers<'_>,
     key: &mut [u8],
 ) -> Extracted
-    requires stands { Stands kind lock }
-    requires sized { Sized kind lock answers }
-    requires lawful { SharesLawful kind lock answers }
-    requires room { length key.old ≡ key_length kind lock.inputs }
-    ensures outcome { result ≡ compared kind sealing (circuit_of kind lock.entry) (answers_of answers.entry) }
-    ensures key { key.new ≡ key_written result (group_bytes kind (key_from kind sealing (circuit_of kind lock.entry) (answers_of answers.entry))) key.old }
+    requires stands { Stands K.kind lock }
+    requires sized { Sized K.kind lock answers }
+    requires lawful { SharesLawful K.kind lock answers }
+    requires room { length key.old ≡ key_length K.kind lock.inputs }
+    ensures outcome { result ≡ compared K.kind S.sealing (circuit_of K.kind lock.entry) (answers_of answers.entry) }
+    ensures key { key.new ≡ key_written result (group_bytes K.kind (key_from K.kind S.sealing (circuit_of K.kind lock.entry) (answers_of answers.entry))) key.old }
 {
     let found = compare::<K, S>(lock, answers);
     if let Extracted::Key = found {

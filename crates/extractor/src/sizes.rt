@@ -18,7 +18,7 @@ pub(crate) fn sizes_right<K: ElementKind, S: Sealer>(
     work2: usize,
     key: usize,
 ) -> Result<(), Fault>
-    ensures { result ≡ sizes_by kind sealing (summary_of lock.entry) first answer1 answer2 answer3 work1 work2 key }
+    ensures { result ≡ sizes_by K.kind S.sealing (summary_of lock.entry) first answer1 answer2 answer3 work1 work2 key }
 {
     let answer = lock.answer_length::<K>();
     let work = lock.work_length::<K>();

@@ -65,11 +65,11 @@ pub(crate) fn test_secrets<K: ElementKind>(
     tape: &[u8],
     work: &mut [u8],
 ) -> Result<(), Fault>
-    requires stands { Stands kind lock }
-    requires within { (lock.inputs + lock.gates) * kind.width ≤ length work.old }
-    requires key { length key.now ≡ group_length kind lock.inputs }
-    requires tape { length tape.now ≡ tape_length kind lock.inputs lock.products }
-    ensures { result ≡ secrets_right kind (circuit_of kind lock.entry) key.now tape.now }
+    requires stands { Stands K.kind lock }
+    requires within { (lock.inputs + lock.gates) * K.kind.width ≤ length work.old }
+    requires key { length key.now ≡ group_length K.kind lock.inputs }
+    requires tape { length tape.now ≡ tape_length K.kind lock.inputs lock.products }
+    ensures { result ≡ secrets_right K.kind (circuit_of K.kind lock.entry) key.now tape.now }
 {
     test_key::<K>(lock, key, work)?;
     test_tape::<K>(lock, split_tape::<K>(lock, tape))

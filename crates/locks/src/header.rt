@@ -35,7 +35,7 @@ fn counts(bytes: &[u8]) -> Result<Counts, Fault>
 }
 
 pub(crate) fn header<K: ElementKind>(bytes: &[u8]) -> Result<Counts, Fault>
-    ensures { result ≡ header_of kind bytes.now }
+    ensures { result ≡ header_of K.kind bytes.now }
 {
     let [first, second, ..] = bytes else {
         return Err(Fault::at(Reason::Truncated, 0));

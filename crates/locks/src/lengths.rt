@@ -8,7 +8,7 @@ use kinds::kind::ElementKind;
 // The bytes of n plain rows.
 pub(crate) fn rows_length<K: ElementKind>(n: usize) -> usize
     requires { n ≤ 8589934592 }
-    ensures value { result ≡ n * kind.width }
+    ensures value { result ≡ n * K.kind.width }
     ensures bound { result ≤ n * 16 }
 {
     n * K::row_length()
@@ -17,7 +17,7 @@ pub(crate) fn rows_length<K: ElementKind>(n: usize) -> usize
 // The bytes of a group of n elements.
 pub(crate) fn group_length<K: ElementKind>(n: usize) -> usize
     requires { n ≤ 4294967296 }
-    ensures value { result ≡ group_length kind n }
+    ensures value { result ≡ group_length K.kind n }
     ensures bound { result ≤ n * 16 }
 {
     rows_length::<K>(n)
@@ -26,7 +26,7 @@ pub(crate) fn group_length<K: ElementKind>(n: usize) -> usize
 // The bytes of a view with so many inputs and products.
 pub(crate) fn view_length<K: ElementKind>(inputs: usize, products: usize) -> usize
     requires few { (inputs ≤ 4294967296) × (products ≤ 4294967296) }
-    ensures value { result ≡ view_length kind inputs products }
+    ensures value { result ≡ view_length K.kind inputs products }
     ensures bound { result ≤ 2 ^ 40 }
 {
     32 + group_length::<K>(inputs) + 2 * group_length::<K>(products)

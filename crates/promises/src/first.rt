@@ -31,12 +31,12 @@ fn put_outputs<K: ElementKind>(
     at: usize,
     size: usize,
 )
-    requires stands { Stands kind lock }
-    requires ready { Ready kind (lock.inputs + lock.gates) work.now }
-    requires sized { size ≡ group_length kind lock.outputs }
+    requires stands { Stands K.kind lock }
+    requires ready { Ready K.kind (lock.inputs + lock.gates) work.now }
+    requires sized { size ≡ group_length K.kind lock.outputs }
     requires room { at + size ≤ length first.old }
-    ensures put { first.new ≡ put first.old at (group_bytes kind (at_outputs (ops_of kind) (circuit_of kind lock.entry).outputs (wires_in kind (lock.entry.inputs + lock.entry.gates) work.now))) }
-    ensures sized { length (group_bytes kind (at_outputs (ops_of kind) (circuit_of kind lock.entry).outputs (wires_in kind (lock.entry.inputs + lock.entry.gates) work.now))) ≡ size }
+    ensures put { first.new ≡ put first.old at (group_bytes K.kind (at_outputs (ops_of K.kind) (circuit_of K.kind lock.entry).outputs (wires_in K.kind (lock.entry.inputs + lock.entry.gates) work.now))) }
+    ensures sized { length (group_bytes K.kind (at_outputs (ops_of K.kind) (circuit_of K.kind lock.entry).outputs (wires_in K.kind (lock.entry.inputs + lock.entry.gates) work.now))) ≡ size }
 {
     write_outputs::<K>(lock, work, &mut first[at..at + size]);
 }
@@ -50,13 +50,13 @@ fn put_shares<K: ElementKind>(
     first: &mut [u8],
     size: usize,
 )
-    requires stands { Stands kind lock }
-    requires ready1 { Ready kind (lock.inputs + lock.gates) work1.now }
-    requires ready2 { Ready kind (lock.inputs + lock.gates) work2.now }
-    requires ready3 { Ready kind (lock.inputs + lock.gates) work3.now }
-    requires sized { size ≡ group_length kind lock.outputs }
+    requires stands { Stands K.kind lock }
+    requires ready1 { Ready K.kind (lock.inputs + lock.gates) work1.now }
+    requires ready2 { Ready K.kind (lock.inputs + lock.gates) work2.now }
+    requires ready3 { Ready K.kind (lock.inputs + lock.gates) work3.now }
+    requires sized { size ≡ group_length K.kind lock.outputs }
     requires room { 2 + 3 * size ≤ length first.old }
-    ensures { take (2 + 3 * size) first.new ≡ outs_on kind (circuit_of kind lock.entry).outputs (wires_on kind (lock.entry.inputs + lock.entry.gates) work1.now work2.now work3.now) }
+    ensures { take (2 + 3 * size) first.new ≡ outs_on K.kind (circuit_of K.kind lock.entry).outputs (wires_on K.kind (lock.entry.inputs + lock.entry.gates) work1.now work2.now work3.now) }
 {
     copy_at(first, 0, b"FM");
     put_outputs::<K>(lock, work1, first, 2, size);
@@ -65,19 +65,19 @@ fn put_shares<K: ElementKind>(
 }
 
 fn put_seal<S: Sealer>(sealer: &S, view: &[u8], first: &mut [u8], at: usize)
-    requires short { length view.now ≤ sealing.longest }
-    requires room { at + sealing.size ≤ length first.old }
-    ensures { first.new ≡ put first.old at (sealing.seal view.now) }
+    requires short { length view.now ≤ S.sealing.longest }
+    requires room { at + S.sealing.size ≤ length first.old }
+    ensures { first.new ≡ put first.old at (S.sealing.seal view.now) }
 {
     let _ = sealer.seal(view, &mut first[at..at + S::seal_length()]);
 }
 
 // The seals of a round's three views, behind the first `at` bytes.
 fn put_seals<S: Sealer>(sealer: &S, views: &[u8], view_length: usize, first: &mut [u8], at: usize)
-    requires short { (view_length ≤ sealing.longest) × (view_length ≤ 65535) }
+    requires short { (view_length ≤ S.sealing.longest) × (view_length ≤ 65535) }
     requires long { length views.now ≡ 3 * view_length }
-    requires room { at + 3 * sealing.size ≡ length first.old }
-    ensures { first.new ≡ take at first.old ++ (sealing.seal (view_part view_length views.now one) ++ (sealing.seal (view_part view_length views.now two) ++ sealing.seal (view_part view_length views.now three))) }
+    requires room { at + 3 * S.sealing.size ≡ length first.old }
+    ensures { first.new ≡ take at first.old ++ (S.sealing.seal (view_part view_length views.now one) ++ (S.sealing.seal (view_part view_length views.now two) ++ S.sealing.seal (view_part view_length views.now three))) }
 {
     let size = S::seal_length();
     put_seal(sealer, part(views, 0, view_length), first, at);

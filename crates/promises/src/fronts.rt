@@ -26,13 +26,13 @@ fn fill_front(front: &mut [u8], blind: &[u8], shares: &[u8], masks: &[u8])
 
 // The third view's, whose shares are computed.
 fn fill_third<K: ElementKind>(front: &mut [u8], tape: Tape<'_>, key: &[u8], count: usize)
-    requires sized { length front.old ≡ length tape.blind3.now + (group_length kind count + length tape.mask3.now) }
-    requires key { length key.now ≡ group_length kind count }
-    requires shares { (length tape.share1.now ≡ group_length kind count) × (length tape.share2.now ≡ group_length kind count) }
-    requires lawful { All (Lawful kind) (group kind count key.now) }
-    requires lawful1 { All (Lawful kind) (group kind count tape.share1.now) }
-    requires lawful2 { All (Lawful kind) (group kind count tape.share2.now) }
-    ensures { front.new ≡ tape.entry.blind3.now ++ (group_bytes kind (third_of kind count key.now tape.entry) ++ tape.entry.mask3.now) }
+    requires sized { length front.old ≡ length tape.blind3.now + (group_length K.kind count + length tape.mask3.now) }
+    requires key { length key.now ≡ group_length K.kind count }
+    requires shares { (length tape.share1.now ≡ group_length K.kind count) × (length tape.share2.now ≡ group_length K.kind count) }
+    requires lawful { All (Lawful K.kind) (group K.kind count key.now) }
+    requires lawful1 { All (Lawful K.kind) (group K.kind count tape.share1.now) }
+    requires lawful2 { All (Lawful K.kind) (group K.kind count tape.share2.now) }
+    ensures { front.new ≡ tape.entry.blind3.now ++ (group_bytes K.kind (third_of K.kind count key.now tape.entry) ++ tape.entry.mask3.now) }
 {
     let from = tape.blind3.len();
     let to = from + tape.share1.len();
@@ -49,14 +49,14 @@ pub(crate) fn write_fronts<K: ElementKind>(
     shape: Shape,
     part: &mut [u8],
 )
-    requires shaped { Shaped kind shape (length part.old) }
-    requires front { shape.products_at ≡ 32 + (group_length kind count + group_length kind shape.products) }
-    requires sized { Sized kind count shape.products tape }
-    requires key { length key.now ≡ group_length kind count }
-    requires lawful { All (Lawful kind) (group kind count key.now) }
-    requires lawful1 { All (Lawful kind) (group kind count tape.share1.now) }
-    requires lawful2 { All (Lawful kind) (group kind count tape.share2.now) }
-    ensures { (i : Name) → front_in shape.view_length shape.products_at part.new i ≡ fronts_of kind count key.now tape.entry i }
+    requires shaped { Shaped K.kind shape (length part.old) }
+    requires front { shape.products_at ≡ 32 + (group_length K.kind count + group_length K.kind shape.products) }
+    requires sized { Sized K.kind count shape.products tape }
+    requires key { length key.now ≡ group_length K.kind count }
+    requires lawful { All (Lawful K.kind) (group K.kind count key.now) }
+    requires lawful1 { All (Lawful K.kind) (group K.kind count tape.share1.now) }
+    requires lawful2 { All (Lawful K.kind) (group K.kind count tape.share2.now) }
+    ensures { (i : Name) → front_in shape.view_length shape.products_at part.new i ≡ fronts_of K.kind count key.now tape.entry i }
 {
     let size = shape.products_at;
     let second = shape.view_length;

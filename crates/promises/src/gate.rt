@@ -27,9 +27,9 @@ use locks::records::GateRecord;
 // Mask q, which a gate uses that has a product.
 fn mask_for<K: ElementKind>(gate: GateRecord<'_>, masks: &[u8], count: usize, q: usize) -> K
     requires some { q + has (gate_of gate) ≤ count }
-    requires within { group_length kind count ≤ length masks.now }
-    requires lawful { All (Lawful kind) (group kind count masks.now) }
-    ensures { row result ≡ taken kind (gate_of gate.entry) (read (ops_of kind) (group kind count masks.now) q) }
+    requires within { group_length K.kind count ≤ length masks.now }
+    requires lawful { All (Lawful K.kind) (group K.kind count masks.now) }
+    ensures { K.row result ≡ taken K.kind (gate_of gate.entry) (read (ops_of K.kind) (group K.kind count masks.now) q) }
 {
     match gate {
         GateRecord::Multiply { .. } => element(masks, count, q),
@@ -39,9 +39,9 @@ fn mask_for<K: ElementKind>(gate: GateRecord<'_>, masks: &[u8], count: usize, q:
 
 // Writes element q of the group of `count` that begins at `at`.
 fn put_at<K: ElementKind>(bytes: &mut [u8], at: usize, count: usize, q: usize, x: K)
-    requires room { at + group_length kind count ≤ length bytes.old }
+    requires room { at + group_length K.kind count ≤ length bytes.old }
     requires below { q < count }
-    ensures { Put kind count at q (row x) bytes.old bytes.new }
+    ensures { Put K.kind count at q (K.row x) bytes.old bytes.new }
 {
     put_element(&mut bytes[at..], count, q, x);
 }
@@ -55,9 +55,9 @@ fn put_product<K: ElementKind>(
     gate: GateRecord<'_>,
     x: K,
 )
-    requires shaped { Shaped kind shape (length part.old) }
+    requires shaped { Shaped K.kind shape (length part.old) }
     requires some { q + has (gate_of gate) ≤ shape.products }
-    ensures { Puts kind shape.products (shape.view_length * behind (the_branch branch) + shape.products_at) q (gate_of gate.entry) (row x) part.old part.new }
+    ensures { Puts K.kind shape.products (shape.view_length * behind (the_branch branch) + shape.products_at) q (gate_of gate.entry) (K.row x) part.old part.new }
 {
     if let GateRecord::Multiply { .. } = gate {
         put_at(
@@ -82,21 +82,21 @@ pub(crate) fn three_gate<K: ElementKind>(
     work3: &mut [u8],
     part: &mut [u8],
 )
-    requires fit { GateFor kind own (gate_of gate) }
-    requires within1 { suc own * kind.width ≤ length work1.old }
-    requires within2 { suc own * kind.width ≤ length work2.old }
-    requires within3 { suc own * kind.width ≤ length work3.old }
-    requires lawful1 { All (Lawful kind) (wires_in kind own work1.old) }
-    requires lawful2 { All (Lawful kind) (wires_in kind own work2.old) }
-    requires lawful3 { All (Lawful kind) (wires_in kind own work3.old) }
-    requires masked { Masked kind shape.products masks }
-    requires shaped { Shaped kind shape (length part.old) }
+    requires fit { GateFor K.kind own (gate_of gate) }
+    requires within1 { suc own * K.kind.width ≤ length work1.old }
+    requires within2 { suc own * K.kind.width ≤ length work2.old }
+    requires within3 { suc own * K.kind.width ≤ length work3.old }
+    requires lawful1 { All (Lawful K.kind) (wires_in K.kind own work1.old) }
+    requires lawful2 { All (Lawful K.kind) (wires_in K.kind own work2.old) }
+    requires lawful3 { All (Lawful K.kind) (wires_in K.kind own work3.old) }
+    requires masked { Masked K.kind shape.products masks }
+    requires shaped { Shaped K.kind shape (length part.old) }
     requires some { q + has (gate_of gate) ≤ shape.products }
-    ensures first { Grows kind one own work1.old work1.new (due_at kind (wires_on kind own work1.old work2.old work3.old) (masks_on kind shape.products masks.entry) q (gate_of gate.entry) one) (gate_of gate.entry) }
-    ensures second { Grows kind two own work2.old work2.new (due_at kind (wires_on kind own work1.old work2.old work3.old) (masks_on kind shape.products masks.entry) q (gate_of gate.entry) two) (gate_of gate.entry) }
-    ensures third { Grows kind three own work3.old work3.new (due_at kind (wires_on kind own work1.old work2.old work3.old) (masks_on kind shape.products masks.entry) q (gate_of gate.entry) three) (gate_of gate.entry) }
+    ensures first { Grows K.kind one own work1.old work1.new (due_at K.kind (wires_on K.kind own work1.old work2.old work3.old) (masks_on K.kind shape.products masks.entry) q (gate_of gate.entry) one) (gate_of gate.entry) }
+    ensures second { Grows K.kind two own work2.old work2.new (due_at K.kind (wires_on K.kind own work1.old work2.old work3.old) (masks_on K.kind shape.products masks.entry) q (gate_of gate.entry) two) (gate_of gate.entry) }
+    ensures third { Grows K.kind three own work3.old work3.new (due_at K.kind (wires_on K.kind own work1.old work2.old work3.old) (masks_on K.kind shape.products masks.entry) q (gate_of gate.entry) three) (gate_of gate.entry) }
     ensures kept { (i : Name) → front_in shape.view_length shape.products_at part.new i ≡ front_in shape.view_length shape.products_at part.old i }
-    ensures put { (i : Name) → products_in kind shape.view_length shape.products_at shape.products part.new i ≡ put_product (gate_of gate.entry) q (due_at kind (wires_on kind own work1.old work2.old work3.old) (masks_on kind shape.products masks.entry) q (gate_of gate.entry) i) (products_in kind shape.view_length shape.products_at shape.products part.old i) }
+    ensures put { (i : Name) → products_in K.kind shape.view_length shape.products_at shape.products part.new i ≡ put_product (gate_of gate.entry) q (due_at K.kind (wires_on K.kind own work1.old work2.old work3.old) (masks_on K.kind shape.products masks.entry) q (gate_of gate.entry) i) (products_in K.kind shape.view_length shape.products_at shape.products part.old i) }
 {
     let mask1: K = mask_for(gate, masks.first, shape.products, q);
     let mask2: K = mask_for(gate, masks.second, shape.products, q);

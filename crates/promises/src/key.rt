@@ -26,11 +26,11 @@ use locks::records::OutputRecord;
 
 // Runs a lock's gates on whole values, of which the inputs are the first wires of the work space.
 fn run_plain<K: ElementKind>(lock: Lock<'_>, work: &mut [u8])
-    requires stands { Stands kind lock }
-    requires within { (lock.inputs + lock.gates) * kind.width ≤ length work.old }
-    requires lawful { All (Lawful kind) (wires_in kind lock.inputs work.old) }
-    ensures wires { wires_in kind (lock.entry.inputs + lock.entry.gates) work.new ≡ plain (ops_of kind) (circuit_of kind lock.entry).gates (wires_in kind lock.entry.inputs work.old) }
-    ensures lawful { All (Lawful kind) (wires_in kind (lock.entry.inputs + lock.entry.gates) work.new) }
+    requires stands { Stands K.kind lock }
+    requires within { (lock.inputs + lock.gates) * K.kind.width ≤ length work.old }
+    requires lawful { All (Lawful K.kind) (wires_in K.kind lock.inputs work.old) }
+    ensures wires { wires_in K.kind (lock.entry.inputs + lock.entry.gates) work.new ≡ plain (ops_of K.kind) (circuit_of K.kind lock.entry).gates (wires_in K.kind lock.entry.inputs work.old) }
+    ensures lawful { All (Lawful K.kind) (wires_in K.kind (lock.entry.inputs + lock.entry.gates) work.new) }
 {
     let inputs = lock.inputs as usize;
     let gates = lock.gates as usize;
@@ -42,10 +42,10 @@ fn run_plain<K: ElementKind>(lock: Lock<'_>, work: &mut [u8])
 }
 
 fn meets<K: ElementKind>(output: OutputRecord<'_>, work: &[u8], wires: usize) -> bool
-    requires fit { OutputFor kind wires (output_of output) }
-    requires within { wires * kind.width ≤ length work.now }
-    requires lawful { All (Lawful kind) (wires_in kind wires work.now) }
-    ensures { result ≡ same_row (read (ops_of kind) (wires_in kind wires work.now) (output_of output.entry).wire) (output_of output.entry).target }
+    requires fit { OutputFor K.kind wires (output_of output) }
+    requires within { wires * K.kind.width ≤ length work.now }
+    requires lawful { All (Lawful K.kind) (wires_in K.kind wires work.now) }
+    ensures { result ≡ same_row (read (ops_of K.kind) (wires_in K.kind wires work.now) (output_of output.entry).wire) (output_of output.entry).target }
 {
     match K::read(output.target) {
         Some(target) => wire::<K>(work, wires, output.wire).equals(target),
@@ -55,10 +55,10 @@ fn meets<K: ElementKind>(output: OutputRecord<'_>, work: &[u8], wires: usize) ->
 
 // The first output whose wire has another value than its target.
 fn first_missed<K: ElementKind>(lock: Lock<'_>, work: &[u8]) -> Option<usize>
-    requires stands { Stands kind lock }
-    requires within { (lock.inputs + lock.gates) * kind.width ≤ length work.now }
-    requires lawful { All (Lawful kind) (wires_in kind (lock.inputs + lock.gates) work.now) }
-    ensures { result ≡ unlike (at_outputs (ops_of kind) (circuit_of kind lock.entry).outputs (wires_in kind (lock.entry.inputs + lock.entry.gates) work.now)) (targets (ops_of kind) (circuit_of kind lock.entry).outputs) }
+    requires stands { Stands K.kind lock }
+    requires within { (lock.inputs + lock.gates) * K.kind.width ≤ length work.now }
+    requires lawful { All (Lawful K.kind) (wires_in K.kind (lock.inputs + lock.gates) work.now) }
+    ensures { result ≡ unlike (at_outputs (ops_of K.kind) (circuit_of K.kind lock.entry).outputs (wires_in K.kind (lock.entry.inputs + lock.entry.gates) work.now)) (targets (ops_of K.kind) (circuit_of K.kind lock.entry).outputs) }
 {
     let wires = lock.inputs as usize + lock.gates as usize;
     let outputs = lock.outputs as usize;
@@ -73,8 +73,8 @@ fn first_missed<K: ElementKind>(lock: Lock<'_>, work: &[u8]) -> Option<usize>
 }
 
 fn test_elements<K: ElementKind>(key: &[u8], inputs: usize) -> Result<(), Fault>
-    requires sized { length key.now ≡ group_length kind inputs }
-    ensures { result ≡ first_at (unlawful kind (group kind inputs key.now)) (fault Reason.UnlawfulKey) }
+    requires sized { length key.now ≡ group_length K.kind inputs }
+    ensures { result ≡ first_at (unlawful K.kind (group K.kind inputs key.now)) (fault Reason.UnlawfulKey) }
 {
     match first_unlawful::<K>(key, inputs) {
         Some(i) => Err(Fault::at(Reason::UnlawfulKey, i)),
@@ -83,11 +83,11 @@ fn test_elements<K: ElementKind>(key: &[u8], inputs: usize) -> Result<(), Fault>
 }
 
 fn test_targets<K: ElementKind>(lock: Lock<'_>, key: &[u8], work: &mut [u8]) -> Result<(), Fault>
-    requires stands { Stands kind lock }
-    requires within { (lock.inputs + lock.gates) * kind.width ≤ length work.old }
-    requires sized { length key.now ≡ group_length kind lock.inputs }
-    requires lawful { All (Lawful kind) (group kind lock.inputs key.now) }
-    ensures { result ≡ first_at (unlike (at_outputs (ops_of kind) (circuit_of kind lock.entry).outputs (plain (ops_of kind) (circuit_of kind lock.entry).gates (group kind lock.entry.inputs key.now))) (targets (ops_of kind) (circuit_of kind lock.entry).outputs)) (fault Reason.KeyDoesNotFit) }
+    requires stands { Stands K.kind lock }
+    requires within { (lock.inputs + lock.gates) * K.kind.width ≤ length work.old }
+    requires sized { length key.now ≡ group_length K.kind lock.inputs }
+    requires lawful { All (Lawful K.kind) (group K.kind lock.inputs key.now) }
+    ensures { result ≡ first_at (unlike (at_outputs (ops_of K.kind) (circuit_of K.kind lock.entry).outputs (plain (ops_of K.kind) (circuit_of K.kind lock.entry).gates (group K.kind lock.entry.inputs key.now))) (targets (ops_of K.kind) (circuit_of K.kind lock.entry).outputs)) (fault Reason.KeyDoesNotFit) }
 {
     wires_from_group::<K>(key, lock.inputs as usize, work);
     run_plain::<K>(lock, work);
@@ -99,10 +99,10 @@ fn test_targets<K: ElementKind>(lock: Lock<'_>, key: &[u8], work: &mut [u8]) -> 
 
 // Tests a key: its elements, then its values at the outputs by a plain run in the work space.
 pub fn test_key<K: ElementKind>(lock: Lock<'_>, key: &[u8], work: &mut [u8]) -> Result<(), Fault>
-    requires stands { Stands kind lock }
-    requires within { (lock.inputs + lock.gates) * kind.width ≤ length work.old }
-    requires sized { length key.now ≡ group_length kind lock.inputs }
-    ensures { result ≡ key_right kind (circuit_of kind lock.entry) (key_of kind (circuit_of kind lock.entry) key.now) }
+    requires stands { Stands K.kind lock }
+    requires within { (lock.inputs + lock.gates) * K.kind.width ≤ length work.old }
+    requires sized { length key.now ≡ group_length K.kind lock.inputs }
+    ensures { result ≡ key_right K.kind (circuit_of K.kind lock.entry) (key_of K.kind (circuit_of K.kind lock.entry) key.now) }
 {
     test_elements::<K>(key, lock.inputs as usize)?;
     test_targets::<K>(lock, key, work)

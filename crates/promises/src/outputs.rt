@@ -17,11 +17,11 @@ use locks::lock::Lock;
 
 // Writes them over the whole of `out`.
 pub(crate) fn write_outputs<K: ElementKind>(lock: Lock<'_>, work: &[u8], out: &mut [u8])
-    requires stands { Stands kind lock }
-    requires within { (lock.inputs + lock.gates) * kind.width ≤ length work.now }
-    requires lawful { All (Lawful kind) (wires_in kind (lock.inputs + lock.gates) work.now) }
-    requires sized { length out.old ≡ group_length kind lock.outputs }
-    ensures { out.new ≡ group_bytes kind (at_outputs (ops_of kind) (circuit_of kind lock.entry).outputs (wires_in kind (lock.entry.inputs + lock.entry.gates) work.now)) }
+    requires stands { Stands K.kind lock }
+    requires within { (lock.inputs + lock.gates) * K.kind.width ≤ length work.now }
+    requires lawful { All (Lawful K.kind) (wires_in K.kind (lock.inputs + lock.gates) work.now) }
+    requires sized { length out.old ≡ group_length K.kind lock.outputs }
+    ensures { out.new ≡ group_bytes K.kind (at_outputs (ops_of K.kind) (circuit_of K.kind lock.entry).outputs (wires_in K.kind (lock.entry.inputs + lock.entry.gates) work.now)) }
 {
     let wires = lock.inputs as usize + lock.gates as usize;
     let outputs = lock.outputs as usize;

@@ -35,14 +35,14 @@ fn start_wires<K: ElementKind>(
     work2: &mut [u8],
     work3: &mut [u8],
 )
-    requires sized { (group_length kind count ≤ length tape.share1.now) × ((group_length kind count ≤ length tape.share2.now) × (group_length kind count ≤ length third.now)) }
-    requires room { (count * kind.width ≤ length work1.old) × ((count * kind.width ≤ length work2.old) × (count * kind.width ≤ length work3.old)) }
-    requires lawful1 { All (Lawful kind) (group kind count tape.share1.now) }
-    requires lawful2 { All (Lawful kind) (group kind count tape.share2.now) }
-    requires lawful3 { All (Lawful kind) (group kind count third.now) }
-    ensures first { wires_in kind count work1.new ≡ group kind count tape.entry.share1.now }
-    ensures second { wires_in kind count work2.new ≡ group kind count tape.entry.share2.now }
-    ensures third { wires_in kind count work3.new ≡ group kind count third.now }
+    requires sized { (group_length K.kind count ≤ length tape.share1.now) × ((group_length K.kind count ≤ length tape.share2.now) × (group_length K.kind count ≤ length third.now)) }
+    requires room { (count * K.kind.width ≤ length work1.old) × ((count * K.kind.width ≤ length work2.old) × (count * K.kind.width ≤ length work3.old)) }
+    requires lawful1 { All (Lawful K.kind) (group K.kind count tape.share1.now) }
+    requires lawful2 { All (Lawful K.kind) (group K.kind count tape.share2.now) }
+    requires lawful3 { All (Lawful K.kind) (group K.kind count third.now) }
+    ensures first { wires_in K.kind count work1.new ≡ group K.kind count tape.entry.share1.now }
+    ensures second { wires_in K.kind count work2.new ≡ group K.kind count tape.entry.share2.now }
+    ensures third { wires_in K.kind count work3.new ≡ group K.kind count third.now }
 {
     wires_from_group::<K>(tape.share1, count, work1);
     wires_from_group::<K>(tape.share2, count, work2);
@@ -60,15 +60,15 @@ fn write_views<K: ElementKind>(
     work3: &mut [u8],
     views: &mut [u8],
 )
-    requires accepted { Accepted kind lock key.now tape shape }
-    requires shaped { Shaped kind shape (length views.old) }
-    requires within1 { (lock.inputs + lock.gates) * kind.width ≤ length work1.old }
-    requires within2 { (lock.inputs + lock.gates) * kind.width ≤ length work2.old }
-    requires within3 { (lock.inputs + lock.gates) * kind.width ≤ length work3.old }
-    ensures views { views.new ≡ round_views kind lock.entry key.now tape.entry }
-    ensures each { (i : Name) → view_part shape.view_length views.new i ≡ round_view kind lock.entry key.now tape.entry i }
-    ensures wires { (i : Name) → wires_on kind (lock.entry.inputs + lock.entry.gates) work1.new work2.new work3.new i ≡ round_wires kind lock.entry key.now tape.entry i }
-    ensures lawful { (i : Name) → All (Lawful kind) (wires_on kind (lock.entry.inputs + lock.entry.gates) work1.new work2.new work3.new i) }
+    requires accepted { Accepted K.kind lock key.now tape shape }
+    requires shaped { Shaped K.kind shape (length views.old) }
+    requires within1 { (lock.inputs + lock.gates) * K.kind.width ≤ length work1.old }
+    requires within2 { (lock.inputs + lock.gates) * K.kind.width ≤ length work2.old }
+    requires within3 { (lock.inputs + lock.gates) * K.kind.width ≤ length work3.old }
+    ensures views { views.new ≡ round_views K.kind lock.entry key.now tape.entry }
+    ensures each { (i : Name) → view_part shape.view_length views.new i ≡ round_view K.kind lock.entry key.now tape.entry i }
+    ensures wires { (i : Name) → wires_on K.kind (lock.entry.inputs + lock.entry.gates) work1.new work2.new work3.new i ≡ round_wires K.kind lock.entry key.now tape.entry i }
+    ensures lawful { (i : Name) → All (Lawful K.kind) (wires_on K.kind (lock.entry.inputs + lock.entry.gates) work1.new work2.new work3.new i) }
 {
     let inputs = lock.inputs as usize;
     write_fronts::<K>(tape, key, inputs, shape, views);

@@ -19,11 +19,11 @@ fn third_share<K: ElementKind>(
     i: usize,
 ) -> K
     requires below { i < count }
-    requires within { (group_length kind count ≤ length key.now) × ((group_length kind count ≤ length share1.now) × (group_length kind count ≤ length share2.now)) }
-    requires lawful { All (Lawful kind) (group kind count key.now) }
-    requires lawful1 { All (Lawful kind) (group kind count share1.now) }
-    requires lawful2 { All (Lawful kind) (group kind count share2.now) }
-    ensures { row result ≡ kind.add (kind.add (read (ops_of kind) (group kind count key.now) i) (kind.neg (read (ops_of kind) (group kind count share1.now) i))) (kind.neg (read (ops_of kind) (group kind count share2.now) i)) }
+    requires within { (group_length K.kind count ≤ length key.now) × ((group_length K.kind count ≤ length share1.now) × (group_length K.kind count ≤ length share2.now)) }
+    requires lawful { All (Lawful K.kind) (group K.kind count key.now) }
+    requires lawful1 { All (Lawful K.kind) (group K.kind count share1.now) }
+    requires lawful2 { All (Lawful K.kind) (group K.kind count share2.now) }
+    ensures { K.row result ≡ K.kind.add (K.kind.add (read (ops_of K.kind) (group K.kind count key.now) i) (K.kind.neg (read (ops_of K.kind) (group K.kind count share1.now) i))) (K.kind.neg (read (ops_of K.kind) (group K.kind count share2.now) i)) }
 {
     let whole: K = element(key, count, i);
     let first: K = element(share1, count, i);
@@ -39,12 +39,12 @@ pub(crate) fn third_shares<K: ElementKind>(
     count: usize,
     out: &mut [u8],
 )
-    requires within { (group_length kind count ≤ length key.now) × ((group_length kind count ≤ length share1.now) × (group_length kind count ≤ length share2.now)) }
-    requires lawful { All (Lawful kind) (group kind count key.now) }
-    requires lawful1 { All (Lawful kind) (group kind count share1.now) }
-    requires lawful2 { All (Lawful kind) (group kind count share2.now) }
-    requires sized { length out.old ≡ group_length kind count }
-    ensures { out.new ≡ group_bytes kind (less (ops_of kind) (less (ops_of kind) (group kind count key.now) (group kind count share1.now)) (group kind count share2.now)) }
+    requires within { (group_length K.kind count ≤ length key.now) × ((group_length K.kind count ≤ length share1.now) × (group_length K.kind count ≤ length share2.now)) }
+    requires lawful { All (Lawful K.kind) (group K.kind count key.now) }
+    requires lawful1 { All (Lawful K.kind) (group K.kind count share1.now) }
+    requires lawful2 { All (Lawful K.kind) (group K.kind count share2.now) }
+    requires sized { length out.old ≡ group_length K.kind count }
+    ensures { out.new ≡ group_bytes K.kind (less (ops_of K.kind) (less (ops_of K.kind) (group K.kind count key.now) (group K.kind count share1.now)) (group K.kind count share2.now)) }
 {
     for i in 0..count {
         let share: K = third_share(key, share1, share2, count, i);

@@ -30,25 +30,25 @@ pub struct Tape<'a> {
 
 // Where a branch's shares begin in a tape.
 fn shares_at<K: ElementKind>(lock: Lock<'_>, branch: Branch) -> usize
-    requires short { view_length kind lock.inputs lock.products ≤ 65535 }
-    ensures { result ≡ shares_from kind lock.entry.inputs (behind (the_branch branch)) }
+    requires short { view_length K.kind lock.inputs lock.products ≤ 65535 }
+    ensures { result ≡ shares_from K.kind lock.entry.inputs (behind (the_branch branch)) }
 {
     96 + before(branch) * group_length::<K>(lock.inputs as usize)
 }
 
 // Where a branch's masks begin.
 fn masks_at<K: ElementKind>(lock: Lock<'_>, branch: Branch) -> usize
-    requires short { view_length kind lock.inputs lock.products ≤ 65535 }
-    ensures { result ≡ masks_from kind lock.entry.inputs lock.entry.products (behind (the_branch branch)) }
+    requires short { view_length K.kind lock.inputs lock.products ≤ 65535 }
+    ensures { result ≡ masks_from K.kind lock.entry.inputs lock.entry.products (behind (the_branch branch)) }
 {
     96 + 2 * group_length::<K>(lock.inputs as usize)
         + before(branch) * group_length::<K>(lock.products as usize)
 }
 
 pub fn split_tape<'a, K: ElementKind>(lock: Lock<'_>, tape: &'a [u8]) -> Tape<'a>
-    requires short { view_length kind lock.inputs lock.products ≤ 65535 }
-    requires sized { length tape.now ≡ tape_length kind lock.inputs lock.products }
-    ensures { Cut kind lock.entry.inputs lock.entry.products tape.now result }
+    requires short { view_length K.kind lock.inputs lock.products ≤ 65535 }
+    requires sized { length tape.now ≡ tape_length K.kind lock.inputs lock.products }
+    ensures { Cut K.kind lock.entry.inputs lock.entry.products tape.now result }
 {
     let shares = group_length::<K>(lock.inputs as usize);
     let masks = group_length::<K>(lock.products as usize);
@@ -66,9 +66,9 @@ pub fn split_tape<'a, K: ElementKind>(lock: Lock<'_>, tape: &'a [u8]) -> Tape<'a
 
 // Tests the elements of a part of the tape that begins at the offset `at`.
 fn test_part<K: ElementKind>(bytes: &[u8], n: usize, at: usize) -> Result<(), Fault>
-    requires sized { length bytes.now ≡ group_length kind n }
+    requires sized { length bytes.now ≡ group_length K.kind n }
     requires near { at < 2 ^ 32 }
-    ensures { result ≡ lawful_at kind Reason.UnlawfulTape at (group kind n bytes.now) }
+    ensures { result ≡ lawful_at K.kind Reason.UnlawfulTape at (group K.kind n bytes.now) }
 {
     match first_unlawful::<K>(bytes, n) {
         Some(i) => Err(Fault::at(Reason::UnlawfulTape, at + element_at::<K>(i))),
@@ -77,9 +77,9 @@ fn test_part<K: ElementKind>(bytes: &[u8], n: usize, at: usize) -> Result<(), Fa
 }
 
 pub fn test_tape<K: ElementKind>(lock: Lock<'_>, tape: Tape<'_>) -> Result<(), Fault>
-    requires short { view_length kind lock.inputs lock.products ≤ 65535 }
-    requires sized { Sized kind lock.inputs lock.products tape }
-    ensures { result ≡ parts_right kind lock.entry.inputs lock.entry.products tape.entry }
+    requires short { view_length K.kind lock.inputs lock.products ≤ 65535 }
+    requires sized { Sized K.kind lock.inputs lock.products tape }
+    ensures { result ≡ parts_right K.kind lock.entry.inputs lock.entry.products tape.entry }
 {
     let inputs = lock.inputs as usize;
     let products = lock.products as usize;

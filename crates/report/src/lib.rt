@@ -20,7 +20,7 @@ use std::alloc::{AllocError, Global};
 const SEAL_LENGTH: u8 = 32;
 
 fn counts_line<K: ElementKind>(heap: Global, lock: &Lock<'_>) -> Result<String, AllocError>
-    ensures { IfOk result (λ t. string_bytes t ≡ counts_line kind (summary_of lock.now)) }
+    ensures { IfOk result (λ t. string_bytes t ≡ counts_line K.kind (summary_of lock.now)) }
 {
     let number = K::kind_number();
     let inputs = lock.inputs;
@@ -30,7 +30,7 @@ fn counts_line<K: ElementKind>(heap: Global, lock: &Lock<'_>) -> Result<String, 
 }
 
 fn lengths_line<K: ElementKind>(heap: Global, lock: &Lock<'_>) -> Result<String, AllocError>
-    ensures { IfOk result (λ t. string_bytes t ≡ lengths_line kind (summary_of lock.now)) }
+    ensures { IfOk result (λ t. string_bytes t ≡ lengths_line K.kind (summary_of lock.now)) }
 {
     let products = lock.products;
     let view = lock.view_length::<K>();
@@ -41,7 +41,7 @@ fn lengths_line<K: ElementKind>(heap: Global, lock: &Lock<'_>) -> Result<String,
 }
 
 fn accepted<K: ElementKind>(heap: Global, lock: &Lock<'_>) -> Result<String, AllocError>
-    ensures { IfOk result (λ t. string_bytes t ≡ counts_line kind (summary_of lock.now) ++ lengths_line kind (summary_of lock.now)) }
+    ensures { IfOk result (λ t. string_bytes t ≡ counts_line K.kind (summary_of lock.now) ++ lengths_line K.kind (summary_of lock.now)) }
 {
     let mut text = counts_line::<K>(heap, lock)?;
     let lengths = lengths_line::<K>(heap, lock)?;
@@ -62,7 +62,7 @@ fn refused(heap: Global, fault: Fault) -> Result<String, AllocError>
 }
 
 fn report_as<K: ElementKind>(heap: Global, bytes: &[u8]) -> Result<String, AllocError>
-    ensures { IfOk result (λ t. string_bytes t ≡ text_of kind (map_ok summary (lock_of kind bytes.now))) }
+    ensures { IfOk result (λ t. string_bytes t ≡ text_of K.kind (map_ok summary (lock_of K.kind bytes.now))) }
 {
     match read_lock::<K>(bytes) {
         Ok(lock) => accepted::<K>(heap, &lock),

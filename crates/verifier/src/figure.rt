@@ -41,10 +41,10 @@ fn first_wrong(wrong: Option<usize>, branch: Branch, reason: Reason) -> Result<(
 
 // The shares of each output sum to its target.
 fn targets_met<K: ElementKind, S: Sealer>(lock: Lock<'_>, first: &[u8]) -> Result<(), Fault>
-    requires stands { Stands kind lock }
-    requires sized { length first.now ≡ first_length kind lock.outputs sealing.size }
-    requires formed { (i : AnyBranch) → All (Lawful kind) (outs_in kind (circuit_of kind lock) first.now i) }
-    ensures { result ≡ targets_met kind (circuit_of kind lock.entry) first.now }
+    requires stands { Stands K.kind lock }
+    requires sized { length first.now ≡ first_length K.kind lock.outputs S.sealing.size }
+    requires formed { (i : AnyBranch) → All (Lawful K.kind) (outs_in K.kind (circuit_of K.kind lock) first.now i) }
+    ensures { result ≡ targets_met K.kind (circuit_of K.kind lock.entry) first.now }
 {
     let shares = Shares {
         one: shares_of::<K, S>(lock, first, Branch::One),
@@ -64,12 +64,12 @@ fn gives_shares<K: ElementKind, S: Sealer>(
     branch: Branch,
     work: &[u8],
 ) -> Result<(), Fault>
-    requires stands { Stands kind lock }
-    requires sized { length first.now ≡ first_length kind lock.outputs sealing.size }
-    requires formed { All (Lawful kind) (outs_in kind (circuit_of kind lock) first.now (the_branch branch)) }
-    requires room { work_length kind lock.inputs lock.gates ≤ length work.now }
-    requires lawful { All (Lawful kind) (wires_in kind (lock.inputs + lock.gates) work.now) }
-    ensures { result ≡ gives_shares kind (circuit_of kind lock.entry) first.now (the_branch branch) (wires_in kind (lock.entry.inputs + lock.entry.gates) work.now) }
+    requires stands { Stands K.kind lock }
+    requires sized { length first.now ≡ first_length K.kind lock.outputs S.sealing.size }
+    requires formed { All (Lawful K.kind) (outs_in K.kind (circuit_of K.kind lock) first.now (the_branch branch)) }
+    requires room { work_length K.kind lock.inputs lock.gates ≤ length work.now }
+    requires lawful { All (Lawful K.kind) (wires_in K.kind (lock.inputs + lock.gates) work.now) }
+    ensures { result ≡ gives_shares K.kind (circuit_of K.kind lock.entry) first.now (the_branch branch) (wires_in K.kind (lock.entry.inputs + lock.entry.gates) work.now) }
 {
     let wrong = wrong_share::<K>(lock, work, shares_of::<K, S>(lock, first, branch));
     first_wrong(wrong, branch, Reason::WrongOutputShare)
@@ -85,16 +85,16 @@ fn runs_hold<'a, K: ElementKind, S: Sealer>(
     work: &mut [u8],
     next_work: &mut [u8],
 ) -> Result<(), Fault>
-    requires stands { Stands kind lock }
-    requires firstsized { length first.now ≡ first_length kind lock.outputs sealing.size }
-    requires sized { length picked.now ≡ view_length kind lock.inputs lock.products }
-    requires nextsized { length following.now ≡ view_length kind lock.inputs lock.products }
-    requires outs { (i : AnyBranch) → All (Lawful kind) (outs_in kind (circuit_of kind lock) first.now i) }
-    requires formed { ViewLawful kind (view_of kind (circuit_of kind lock) picked.now).1 }
-    requires nextformed { ViewLawful kind (view_of kind (circuit_of kind lock) following.now).1 }
-    requires room { work_length kind lock.inputs lock.gates ≤ length work.old }
-    requires nextroom { work_length kind lock.inputs lock.gates ≤ length next_work.old }
-    ensures { result ≡ runs_hold kind (circuit_of kind lock.entry) first.now (the_branch branch) (view_of kind (circuit_of kind lock.entry) picked.now).1 (view_of kind (circuit_of kind lock.entry) following.now).1 }
+    requires stands { Stands K.kind lock }
+    requires firstsized { length first.now ≡ first_length K.kind lock.outputs S.sealing.size }
+    requires sized { length picked.now ≡ view_length K.kind lock.inputs lock.products }
+    requires nextsized { length following.now ≡ view_length K.kind lock.inputs lock.products }
+    requires outs { (i : AnyBranch) → All (Lawful K.kind) (outs_in K.kind (circuit_of K.kind lock) first.now i) }
+    requires formed { ViewLawful K.kind (view_of K.kind (circuit_of K.kind lock) picked.now).1 }
+    requires nextformed { ViewLawful K.kind (view_of K.kind (circuit_of K.kind lock) following.now).1 }
+    requires room { work_length K.kind lock.inputs lock.gates ≤ length work.old }
+    requires nextroom { work_length K.kind lock.inputs lock.gates ≤ length next_work.old }
+    ensures { result ≡ runs_hold K.kind (circuit_of K.kind lock.entry) first.now (the_branch branch) (view_of K.kind (circuit_of K.kind lock.entry) picked.now).1 (view_of K.kind (circuit_of K.kind lock.entry) following.now).1 }
 {
     let wrong = rerun_views::<K>(lock, branch, picked, following, work, next_work);
     gives_shares::<K, S>(lock, first, branch, work)?;
@@ -113,17 +113,17 @@ fn opened_right<'a, K: ElementKind, S: Sealer>(
     work1: &mut [u8],
     work2: &mut [u8],
 ) -> Result<(), Fault>
-    requires stands { Stands kind lock }
-    requires sealable { view_length kind lock.inputs lock.products ≤ sealing.longest }
-    requires firstsized { length first.now ≡ first_length kind lock.outputs sealing.size }
-    requires sized { length picked.now ≡ view_length kind lock.inputs lock.products }
-    requires nextsized { length following.now ≡ view_length kind lock.inputs lock.products }
-    requires outs { (i : AnyBranch) → All (Lawful kind) (outs_in kind (circuit_of kind lock) first.now i) }
-    requires formed { ViewLawful kind (view_of kind (circuit_of kind lock) picked.now).1 }
-    requires nextformed { ViewLawful kind (view_of kind (circuit_of kind lock) following.now).1 }
-    requires room { work_length kind lock.inputs lock.gates ≤ length work1.old }
-    requires nextroom { work_length kind lock.inputs lock.gates ≤ length work2.old }
-    ensures { result ≡ opened_right kind (circuit_of kind lock.entry) first.now sealing (the_branch branch) picked.now following.now }
+    requires stands { Stands K.kind lock }
+    requires sealable { view_length K.kind lock.inputs lock.products ≤ S.sealing.longest }
+    requires firstsized { length first.now ≡ first_length K.kind lock.outputs S.sealing.size }
+    requires sized { length picked.now ≡ view_length K.kind lock.inputs lock.products }
+    requires nextsized { length following.now ≡ view_length K.kind lock.inputs lock.products }
+    requires outs { (i : AnyBranch) → All (Lawful K.kind) (outs_in K.kind (circuit_of K.kind lock) first.now i) }
+    requires formed { ViewLawful K.kind (view_of K.kind (circuit_of K.kind lock) picked.now).1 }
+    requires nextformed { ViewLawful K.kind (view_of K.kind (circuit_of K.kind lock) following.now).1 }
+    requires room { work_length K.kind lock.inputs lock.gates ≤ length work1.old }
+    requires nextroom { work_length K.kind lock.inputs lock.gates ≤ length work2.old }
+    ensures { result ≡ opened_right K.kind (circuit_of K.kind lock.entry) first.now S.sealing (the_branch branch) picked.now following.now }
 {
     if !is_sealed::<K, S>(sealer, lock, first, branch, picked) {
         return first_wrong(Some(0), branch, Reason::WrongSeal);
@@ -145,14 +145,14 @@ fn answer_right<K: ElementKind, S: Sealer>(
     work1: &mut [u8],
     work2: &mut [u8],
 ) -> Result<(), Fault>
-    requires stands { Stands kind lock }
-    requires sealable { view_length kind lock.inputs lock.products ≤ sealing.longest }
-    requires firstsized { length first.now ≡ first_length kind lock.outputs sealing.size }
-    requires answersized { length answer.now ≡ answer_length kind lock.inputs lock.products }
-    requires room { work_length kind lock.inputs lock.gates ≤ length work1.old }
-    requires nextroom { work_length kind lock.inputs lock.gates ≤ length work2.old }
-    requires formed { Formed kind (circuit_of kind lock) first.now answer.now }
-    ensures { result ≡ opened_right kind (circuit_of kind lock.entry) first.now sealing (the_branch branch) (picked_view kind (circuit_of kind lock.entry) answer.now) (next_view kind (circuit_of kind lock.entry) answer.now) }
+    requires stands { Stands K.kind lock }
+    requires sealable { view_length K.kind lock.inputs lock.products ≤ S.sealing.longest }
+    requires firstsized { length first.now ≡ first_length K.kind lock.outputs S.sealing.size }
+    requires answersized { length answer.now ≡ answer_length K.kind lock.inputs lock.products }
+    requires room { work_length K.kind lock.inputs lock.gates ≤ length work1.old }
+    requires nextroom { work_length K.kind lock.inputs lock.gates ≤ length work2.old }
+    requires formed { Formed K.kind (circuit_of K.kind lock) first.now answer.now }
+    ensures { result ≡ opened_right K.kind (circuit_of K.kind lock.entry) first.now S.sealing (the_branch branch) (picked_view K.kind (circuit_of K.kind lock.entry) answer.now) (next_view K.kind (circuit_of K.kind lock.entry) answer.now) }
 {
     let (picked, following) = answer_views::<K>(lock, answer);
     opened_right::<K, S>(sealer, lock, first, branch, picked, following, work1, work2)
@@ -168,14 +168,14 @@ pub(crate) fn figure_holds<K: ElementKind, S: Sealer>(
     work1: &mut [u8],
     work2: &mut [u8],
 ) -> Result<(), Fault>
-    requires stands { Stands kind lock }
-    requires sealable { view_length kind lock.inputs lock.products ≤ sealing.longest }
-    requires firstsized { length first.now ≡ first_length kind lock.outputs sealing.size }
-    requires answersized { length answer.now ≡ answer_length kind lock.inputs lock.products }
-    requires room { work_length kind lock.inputs lock.gates ≤ length work1.old }
-    requires nextroom { work_length kind lock.inputs lock.gates ≤ length work2.old }
-    requires formed { Formed kind (circuit_of kind lock) first.now answer.now }
-    ensures { result ≡ both (targets_met kind (circuit_of kind lock.entry) first.now) (opened_right kind (circuit_of kind lock.entry) first.now sealing (the_branch branch) (picked_view kind (circuit_of kind lock.entry) answer.now) (next_view kind (circuit_of kind lock.entry) answer.now)) }
+    requires stands { Stands K.kind lock }
+    requires sealable { view_length K.kind lock.inputs lock.products ≤ S.sealing.longest }
+    requires firstsized { length first.now ≡ first_length K.kind lock.outputs S.sealing.size }
+    requires answersized { length answer.now ≡ answer_length K.kind lock.inputs lock.products }
+    requires room { work_length K.kind lock.inputs lock.gates ≤ length work1.old }
+    requires nextroom { work_length K.kind lock.inputs lock.gates ≤ length work2.old }
+    requires formed { Formed K.kind (circuit_of K.kind lock) first.now answer.now }
+    ensures { result ≡ both (targets_met K.kind (circuit_of K.kind lock.entry) first.now) (opened_right K.kind (circuit_of K.kind lock.entry) first.now S.sealing (the_branch branch) (picked_view K.kind (circuit_of K.kind lock.entry) answer.now) (next_view K.kind (circuit_of K.kind lock.entry) answer.now)) }
 {
     targets_met::<K, S>(lock, first)?;
     answer_right::<K, S>(sealer, lock, first, branch, answer, work1, work2)

@@ -25,8 +25,8 @@ fn before(branch: Branch) -> usize
 
 // Where the output shares of a branch begin.
 pub(crate) fn shares_at<K: ElementKind>(lock: Lock<'_>, branch: Branch) -> usize
-    requires { Stands kind lock }
-    ensures value { result ≡ outs_at kind (circuit_of kind lock.entry) (the_branch branch) }
+    requires { Stands K.kind lock }
+    ensures value { result ≡ outs_at K.kind (circuit_of K.kind lock.entry) (the_branch branch) }
     ensures near { result ≤ 4294967296 }
 {
     2 + before(branch) * group_length::<K>(lock.outputs as usize)
@@ -38,10 +38,10 @@ pub(crate) fn shares_of<'a, K: ElementKind, S: Sealer>(
     first: &'a [u8],
     branch: Branch,
 ) -> &'a [u8]
-    requires stands { Stands kind lock }
-    requires sized { length first.now ≡ first_length kind lock.outputs sealing.size }
-    ensures shares { result.now ≡ drop (outs_at kind (circuit_of kind lock.entry) (the_branch branch)) first.now }
-    ensures room { group_length kind lock.entry.outputs ≤ length result.now }
+    requires stands { Stands K.kind lock }
+    requires sized { length first.now ≡ first_length K.kind lock.outputs S.sealing.size }
+    ensures shares { result.now ≡ drop (outs_at K.kind (circuit_of K.kind lock.entry) (the_branch branch)) first.now }
+    ensures room { group_length K.kind lock.entry.outputs ≤ length result.now }
 {
     let start = shares_at::<K>(lock, branch);
     &first[start..]
@@ -53,10 +53,10 @@ pub(crate) fn seal_of<'a, K: ElementKind, S: Sealer>(
     first: &'a [u8],
     branch: Branch,
 ) -> &'a [u8]
-    requires stands { Stands kind lock }
-    requires sized { length first.now ≡ first_length kind lock.outputs sealing.size }
-    ensures seal { result.now ≡ seal_in kind (circuit_of kind lock.entry) sealing.size first.now (the_branch branch) }
-    ensures long { length result.now ≡ sealing.size }
+    requires stands { Stands K.kind lock }
+    requires sized { length first.now ≡ first_length K.kind lock.outputs S.sealing.size }
+    ensures seal { result.now ≡ seal_in K.kind (circuit_of K.kind lock.entry) S.sealing.size first.now (the_branch branch) }
+    ensures long { length result.now ≡ S.sealing.size }
 {
     let size = S::seal_length();
     let start = 2 + 3 * group_length::<K>(lock.outputs as usize) + before(branch) * size;

@@ -31,9 +31,9 @@ fn shares_formed<K: ElementKind, S: Sealer>(
     first: &[u8],
     branch: Branch,
 ) -> Result<(), Fault>
-    requires stands { Stands kind lock }
-    requires sized { length first.now ≡ first_length kind lock.outputs sealing.size }
-    ensures { result ≡ lawful_at kind Reason.MalformedFirstMessage (outs_at kind (circuit_of kind lock.entry) (the_branch branch)) (outs_in kind (circuit_of kind lock.entry) first.now (the_branch branch)) }
+    requires stands { Stands K.kind lock }
+    requires sized { length first.now ≡ first_length K.kind lock.outputs S.sealing.size }
+    ensures { result ≡ lawful_at K.kind Reason.MalformedFirstMessage (outs_at K.kind (circuit_of K.kind lock.entry) (the_branch branch)) (outs_in K.kind (circuit_of K.kind lock.entry) first.now (the_branch branch)) }
 {
     lawful_group::<K>(
         shares_of::<K, S>(lock, first, branch),
@@ -48,9 +48,9 @@ pub(crate) fn first_formed<K: ElementKind, S: Sealer>(
     lock: Lock<'_>,
     first: &[u8],
 ) -> Result<(), Fault>
-    requires stands { Stands kind lock }
-    requires sized { length first.now ≡ first_length kind lock.outputs sealing.size }
-    ensures { result ≡ first_formed kind sealing (circuit_of kind lock.entry) first.now }
+    requires stands { Stands K.kind lock }
+    requires sized { length first.now ≡ first_length K.kind lock.outputs S.sealing.size }
+    ensures { result ≡ first_formed K.kind S.sealing (circuit_of K.kind lock.entry) first.now }
 {
     if !is_marked(first, b"FM") {
         return Err(Fault::at(Reason::MalformedFirstMessage, 0));
@@ -66,10 +66,10 @@ fn view_formed<K: ElementKind, S: Sealer>(
     view: &[u8],
     at: usize,
 ) -> Result<(), Fault>
-    requires stands { Stands kind lock }
-    requires sized { length view.now ≡ view_length kind lock.inputs lock.products }
+    requires stands { Stands K.kind lock }
+    requires sized { length view.now ≡ view_length K.kind lock.inputs lock.products }
     requires near { at ≤ 4294967296 }
-    ensures { result ≡ view_formed kind sealing (circuit_of kind lock.entry) at (view_of kind (circuit_of kind lock.entry) view.now).1 }
+    ensures { result ≡ view_formed K.kind S.sealing (circuit_of K.kind lock.entry) at (view_of K.kind (circuit_of K.kind lock.entry) view.now).1 }
 {
     let parts = view_parts::<K>(lock, view);
     let places = view_places::<K>(lock);
@@ -100,9 +100,9 @@ pub(crate) fn answer_formed<K: ElementKind, S: Sealer>(
     branch: Branch,
     answer: &[u8],
 ) -> Result<(), Fault>
-    requires stands { Stands kind lock }
-    requires sized { length answer.now ≡ answer_length kind lock.inputs lock.products }
-    ensures { result ≡ answer_formed kind sealing (circuit_of kind lock.entry) (the_branch branch) answer.now }
+    requires stands { Stands K.kind lock }
+    requires sized { length answer.now ≡ answer_length K.kind lock.inputs lock.products }
+    ensures { result ≡ answer_formed K.kind S.sealing (circuit_of K.kind lock.entry) (the_branch branch) answer.now }
 {
     if !is_marked(answer, b"AN") {
         return Err(Fault::at(Reason::MalformedAnswer, 0));

@@ -23,13 +23,13 @@ pub fn messages_right<K: ElementKind, S: Sealer>(
     work1: &mut [u8],
     work2: &mut [u8],
 ) -> Result<(), Fault>
-    requires stands { Stands kind lock }
-    requires sealable { view_length kind lock.inputs lock.products ≤ sealing.longest }
-    requires firstsized { length first.now ≡ first_length kind lock.outputs sealing.size }
-    requires answersized { length answer.now ≡ answer_length kind lock.inputs lock.products }
-    requires room { work_length kind lock.inputs lock.gates ≤ length work1.old }
-    requires nextroom { work_length kind lock.inputs lock.gates ≤ length work2.old }
-    ensures { result ≡ messages_right kind sealing (circuit_of kind lock.entry) first.now (the_branch branch) answer.now }
+    requires stands { Stands K.kind lock }
+    requires sealable { view_length K.kind lock.inputs lock.products ≤ S.sealing.longest }
+    requires firstsized { length first.now ≡ first_length K.kind lock.outputs S.sealing.size }
+    requires answersized { length answer.now ≡ answer_length K.kind lock.inputs lock.products }
+    requires room { work_length K.kind lock.inputs lock.gates ≤ length work1.old }
+    requires nextroom { work_length K.kind lock.inputs lock.gates ≤ length work2.old }
+    ensures { result ≡ messages_right K.kind S.sealing (circuit_of K.kind lock.entry) first.now (the_branch branch) answer.now }
 {
     first_formed::<K, S>(lock, first)?;
     answer_formed::<K, S>(lock, branch, answer)?;

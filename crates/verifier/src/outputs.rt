@@ -36,10 +36,10 @@ fn meets_target<K: ElementKind>(
     m: usize,
     j: usize,
 ) -> bool
-    requires target { Lawful kind (output_of output).target }
-    requires open { SharesOpen kind m shares }
+    requires target { Lawful K.kind (output_of output).target }
+    requires open { SharesOpen K.kind m shares }
     requires below { j < m }
-    ensures { result ≡ same_row (kind.add (kind.add (read (ops_of kind) (shares_on kind m shares.entry one) j) (read (ops_of kind) (shares_on kind m shares.entry two) j)) (read (ops_of kind) (shares_on kind m shares.entry three) j)) (output_of output.entry).target }
+    ensures { result ≡ same_row (K.kind.add (K.kind.add (read (ops_of K.kind) (shares_on K.kind m shares.entry one) j) (read (ops_of K.kind) (shares_on K.kind m shares.entry two) j)) (read (ops_of K.kind) (shares_on K.kind m shares.entry three) j)) (output_of output.entry).target }
 {
     element::<K>(shares.one, m, j)
         .sum(element(shares.two, m, j))
@@ -49,9 +49,9 @@ fn meets_target<K: ElementKind>(
 
 // The first output whose shares miss its target.
 pub(crate) fn missed_target<K: ElementKind>(lock: Lock<'_>, shares: Shares<'_>) -> Option<usize>
-    requires stands { Stands kind lock }
-    requires open { SharesOpen kind lock.outputs shares }
-    ensures { result ≡ unlike (sum_of (ops_of kind) (shares_on kind lock.entry.outputs shares.entry)) (targets (ops_of kind) (circuit_of kind lock.entry).outputs) }
+    requires stands { Stands K.kind lock }
+    requires open { SharesOpen K.kind lock.outputs shares }
+    ensures { result ≡ unlike (sum_of (ops_of K.kind) (shares_on K.kind lock.entry.outputs shares.entry)) (targets (ops_of K.kind) (circuit_of K.kind lock.entry).outputs) }
 {
     let mut reader = outputs_reader::<K>(lock);
     let m = lock.outputs as usize;
@@ -74,12 +74,12 @@ fn gives_share<K: ElementKind>(
     j: usize,
 ) -> bool
     requires wire { (output_of output).wire < wires }
-    requires within { wires * kind.width ≤ length work.now }
-    requires lawful { All (Lawful kind) (wires_in kind wires work.now) }
-    requires room { group_length kind m ≤ length shares.now }
-    requires shared { All (Lawful kind) (group kind m shares.now) }
+    requires within { wires * K.kind.width ≤ length work.now }
+    requires lawful { All (Lawful K.kind) (wires_in K.kind wires work.now) }
+    requires room { group_length K.kind m ≤ length shares.now }
+    requires shared { All (Lawful K.kind) (group K.kind m shares.now) }
     requires below { j < m }
-    ensures { result ≡ same_row (read (ops_of kind) (wires_in kind wires work.now) (output_of output.entry).wire) (read (ops_of kind) (group kind m shares.now) j) }
+    ensures { result ≡ same_row (read (ops_of K.kind) (wires_in K.kind wires work.now) (output_of output.entry).wire) (read (ops_of K.kind) (group K.kind m shares.now) j) }
 {
     wire::<K>(work, wires, output.wire).equals(element(shares, m, j))
 }
@@ -90,12 +90,12 @@ pub(crate) fn wrong_share<K: ElementKind>(
     work: &[u8],
     shares: &[u8],
 ) -> Option<usize>
-    requires stands { Stands kind lock }
-    requires within { (lock.inputs + lock.gates) * kind.width ≤ length work.now }
-    requires lawful { All (Lawful kind) (wires_in kind (lock.inputs + lock.gates) work.now) }
-    requires room { group_length kind lock.outputs ≤ length shares.now }
-    requires shared { All (Lawful kind) (group kind lock.outputs shares.now) }
-    ensures { result ≡ unlike (at_outputs (ops_of kind) (circuit_of kind lock.entry).outputs (wires_in kind (lock.entry.inputs + lock.entry.gates) work.now)) (group kind lock.entry.outputs shares.now) }
+    requires stands { Stands K.kind lock }
+    requires within { (lock.inputs + lock.gates) * K.kind.width ≤ length work.now }
+    requires lawful { All (Lawful K.kind) (wires_in K.kind (lock.inputs + lock.gates) work.now) }
+    requires room { group_length K.kind lock.outputs ≤ length shares.now }
+    requires shared { All (Lawful K.kind) (group K.kind lock.outputs shares.now) }
+    ensures { result ≡ unlike (at_outputs (ops_of K.kind) (circuit_of K.kind lock.entry).outputs (wires_in K.kind (lock.entry.inputs + lock.entry.gates) work.now)) (group K.kind lock.entry.outputs shares.now) }
 {
     let mut reader = outputs_reader::<K>(lock);
     let wires = lock.inputs as usize + lock.gates as usize;

@@ -34,10 +34,10 @@ pub(crate) struct Pair<'a> {
 
 // Element q of a group if the gate is a product, else zero.
 fn taken<K: ElementKind>(gate: GateRecord<'_>, bytes: &[u8], count: usize, q: usize) -> K
-    requires room { group_length kind count ≤ length bytes.now }
-    requires lawful { All (Lawful kind) (group kind count bytes.now) }
+    requires room { group_length K.kind count ≤ length bytes.now }
+    requires lawful { All (Lawful K.kind) (group K.kind count bytes.now) }
     requires some { q + has (gate_of gate) ≤ count }
-    ensures { row result ≡ taken kind (gate_of gate.entry) (read (ops_of kind) (group kind count bytes.now) q) }
+    ensures { K.row result ≡ taken K.kind (gate_of gate.entry) (read (ops_of K.kind) (group K.kind count bytes.now) q) }
 {
     match gate {
         GateRecord::Multiply { .. } => element(bytes, count, q),
@@ -66,14 +66,14 @@ fn product_right<K: ElementKind>(
     next_work: &[u8],
     product: K,
 ) -> bool
-    requires fit { GateFor kind own (gate_of gate) }
-    requires opens { PairOpens kind pair }
+    requires fit { GateFor K.kind own (gate_of gate) }
+    requires opens { PairOpens K.kind pair }
     requires some { q + has (gate_of gate) ≤ pair.count }
-    requires within { own * kind.width ≤ length work.now }
-    requires nextwithin { own * kind.width ≤ length next_work.now }
-    requires lawful { All (Lawful kind) (wires_in kind own work.now) }
-    requires nextlawful { All (Lawful kind) (wires_in kind own next_work.now) }
-    ensures { result ≡ same_row (row product) (right (ops_of kind) (gate_of gate.entry) (wires_in kind own work.now) (taken kind (gate_of gate.entry) (first_mask kind pair.entry q) ∷ []) (wires_in kind own next_work.now) (taken kind (gate_of gate.entry) (second_mask kind pair.entry q) ∷ [])) }
+    requires within { own * K.kind.width ≤ length work.now }
+    requires nextwithin { own * K.kind.width ≤ length next_work.now }
+    requires lawful { All (Lawful K.kind) (wires_in K.kind own work.now) }
+    requires nextlawful { All (Lawful K.kind) (wires_in K.kind own next_work.now) }
+    ensures { result ≡ same_row (K.row product) (right (ops_of K.kind) (gate_of gate.entry) (wires_in K.kind own work.now) (taken K.kind (gate_of gate.entry) (first_mask K.kind pair.entry q) ∷ []) (wires_in K.kind own next_work.now) (taken K.kind (gate_of gate.entry) (second_mask K.kind pair.entry q) ∷ [])) }
 {
     let mask: K = taken(gate, pair.view.masks, pair.count, q);
     let next_mask: K = taken(gate, pair.next_view.masks, pair.count, q);
@@ -89,16 +89,16 @@ fn pair_gate<K: ElementKind>(
     work: &mut [u8],
     next_work: &mut [u8],
 ) -> bool
-    requires fit { GateFor kind own (gate_of gate) }
-    requires opens { PairOpens kind pair }
+    requires fit { GateFor K.kind own (gate_of gate) }
+    requires opens { PairOpens K.kind pair }
     requires some { q + has (gate_of gate) ≤ pair.count }
-    requires within { suc own * kind.width ≤ length work.old }
-    requires nextwithin { suc own * kind.width ≤ length next_work.old }
-    requires lawful { All (Lawful kind) (wires_in kind own work.old) }
-    requires nextlawful { All (Lawful kind) (wires_in kind own next_work.old) }
-    ensures right { result ≡ is_right kind (gate_of gate.entry) (first_view kind pair.entry own work.old q) (second_view kind pair.entry own next_work.old q) }
-    ensures grown { wires_in kind (suc own) work.new ≡ (step (ops_of kind) (first_of pair.entry) (gate_of gate.entry) (first_view kind pair.entry own work.old q)).wires }
-    ensures nextgrown { wires_in kind (suc own) next_work.new ≡ (step (ops_of kind) (second_of pair.entry) (gate_of gate.entry) (second_view kind pair.entry own next_work.old q)).wires }
+    requires within { suc own * K.kind.width ≤ length work.old }
+    requires nextwithin { suc own * K.kind.width ≤ length next_work.old }
+    requires lawful { All (Lawful K.kind) (wires_in K.kind own work.old) }
+    requires nextlawful { All (Lawful K.kind) (wires_in K.kind own next_work.old) }
+    ensures right { result ≡ is_right K.kind (gate_of gate.entry) (first_view K.kind pair.entry own work.old q) (second_view K.kind pair.entry own next_work.old q) }
+    ensures grown { wires_in K.kind (suc own) work.new ≡ (step (ops_of K.kind) (first_of pair.entry) (gate_of gate.entry) (first_view K.kind pair.entry own work.old q)).wires }
+    ensures nextgrown { wires_in K.kind (suc own) next_work.new ≡ (step (ops_of K.kind) (second_of pair.entry) (gate_of gate.entry) (second_view K.kind pair.entry own next_work.old q)).wires }
 {
     let product: K = taken(gate, pair.view.products, pair.count, q);
     let next_product: K = taken(gate, pair.next_view.products, pair.count, q);
@@ -115,18 +115,18 @@ pub(crate) fn rerun<K: ElementKind>(
     work: &mut [u8],
     next_work: &mut [u8],
 ) -> Option<usize>
-    requires stands { Stands kind lock }
-    requires opens { PairOpens kind pair }
+    requires stands { Stands K.kind lock }
+    requires opens { PairOpens K.kind pair }
     requires counted { pair.count ≡ lock.products }
-    requires within { (lock.inputs + lock.gates) * kind.width ≤ length work.old }
-    requires nextwithin { (lock.inputs + lock.gates) * kind.width ≤ length next_work.old }
-    requires lawful { All (Lawful kind) (wires_in kind lock.inputs work.old) }
-    requires nextlawful { All (Lawful kind) (wires_in kind lock.inputs next_work.old) }
-    ensures wrong { result ≡ wrong_product kind (first_of pair.entry) (second_of pair.entry) lock.entry.inputs (circuit_of kind lock.entry).gates (first_view kind pair.entry lock.entry.inputs work.old 0) (second_view kind pair.entry lock.entry.inputs next_work.old 0) }
-    ensures first { wires_in kind (lock.entry.inputs + lock.entry.gates) work.new ≡ rerun (ops_of kind) (first_of pair.entry) (circuit_of kind lock.entry).gates (first_view kind pair.entry lock.entry.inputs work.old 0) }
-    ensures second { wires_in kind (lock.entry.inputs + lock.entry.gates) next_work.new ≡ rerun (ops_of kind) (second_of pair.entry) (circuit_of kind lock.entry).gates (second_view kind pair.entry lock.entry.inputs next_work.old 0) }
-    ensures lawful { All (Lawful kind) (wires_in kind (lock.entry.inputs + lock.entry.gates) work.new) }
-    ensures nextlawful { All (Lawful kind) (wires_in kind (lock.entry.inputs + lock.entry.gates) next_work.new) }
+    requires within { (lock.inputs + lock.gates) * K.kind.width ≤ length work.old }
+    requires nextwithin { (lock.inputs + lock.gates) * K.kind.width ≤ length next_work.old }
+    requires lawful { All (Lawful K.kind) (wires_in K.kind lock.inputs work.old) }
+    requires nextlawful { All (Lawful K.kind) (wires_in K.kind lock.inputs next_work.old) }
+    ensures wrong { result ≡ wrong_product K.kind (first_of pair.entry) (second_of pair.entry) lock.entry.inputs (circuit_of K.kind lock.entry).gates (first_view K.kind pair.entry lock.entry.inputs work.old 0) (second_view K.kind pair.entry lock.entry.inputs next_work.old 0) }
+    ensures first { wires_in K.kind (lock.entry.inputs + lock.entry.gates) work.new ≡ rerun (ops_of K.kind) (first_of pair.entry) (circuit_of K.kind lock.entry).gates (first_view K.kind pair.entry lock.entry.inputs work.old 0) }
+    ensures second { wires_in K.kind (lock.entry.inputs + lock.entry.gates) next_work.new ≡ rerun (ops_of K.kind) (second_of pair.entry) (circuit_of K.kind lock.entry).gates (second_view K.kind pair.entry lock.entry.inputs next_work.old 0) }
+    ensures lawful { All (Lawful K.kind) (wires_in K.kind (lock.entry.inputs + lock.entry.gates) work.new) }
+    ensures nextlawful { All (Lawful K.kind) (wires_in K.kind (lock.entry.inputs + lock.entry.gates) next_work.new) }
 {
     let mut reader = lock.reader();
     let mut q = 0;

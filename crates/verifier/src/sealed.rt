@@ -17,10 +17,10 @@ use seals::Sealer;
 const MOST_SEAL: usize = 64;
 
 fn seals_as<S: Sealer>(sealer: &S, view: &[u8], seal: &[u8], made: &mut [u8]) -> bool
-    requires short { length view.now ≤ sealing.longest }
-    requires sized { length seal.now ≡ sealing.size }
-    requires room { length made.old ≡ sealing.size }
-    ensures { result ≡ same_row (sealing.seal view.now) seal.now }
+    requires short { length view.now ≤ S.sealing.longest }
+    requires sized { length seal.now ≡ S.sealing.size }
+    requires room { length made.old ≡ S.sealing.size }
+    ensures { result ≡ same_row (S.sealing.seal view.now) seal.now }
 {
     let _ = sealer.seal(view, made);
     same_bytes(made, seal)
@@ -33,10 +33,10 @@ pub(crate) fn is_sealed<K: ElementKind, S: Sealer>(
     branch: Branch,
     view: &[u8],
 ) -> bool
-    requires stands { Stands kind lock }
-    requires sized { length first.now ≡ first_length kind lock.outputs sealing.size }
-    requires short { length view.now ≤ sealing.longest }
-    ensures { result ≡ seal_right kind (circuit_of kind lock.entry) first.now sealing (the_branch branch) view.now }
+    requires stands { Stands K.kind lock }
+    requires sized { length first.now ≡ first_length K.kind lock.outputs S.sealing.size }
+    requires short { length view.now ≤ S.sealing.longest }
+    ensures { result ≡ seal_right K.kind (circuit_of K.kind lock.entry) first.now S.sealing (the_branch branch) view.now }
 {
     let mut made = [0; MOST_SEAL];
     let size = S::seal_length();

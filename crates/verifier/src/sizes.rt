@@ -15,7 +15,7 @@ pub(crate) fn sizes_right<K: ElementKind, S: Sealer>(
     work1: usize,
     work2: usize,
 ) -> Result<(), Fault>
-    ensures { result ≡ sizes_by kind sealing (summary_of lock.entry) first answer work1 work2 }
+    ensures { result ≡ sizes_by K.kind S.sealing (summary_of lock.entry) first answer work1 work2 }
 {
     if lock.view_length::<K>() > S::longest_message() {
         return Err(Fault::at(Reason::WrongSize, 0));

@@ -22,7 +22,7 @@ fn verdict<K: ElementKind, S: Sealer>(
     work1: &mut [u8],
     work2: &mut [u8],
 ) -> Result<(), Fault>
-    ensures { result ≡ verified kind sealing lock.now first.now pick answer.now (length work1.old) (length work2.old) }
+    ensures { result ≡ verified K.kind S.sealing lock.now first.now pick answer.now (length work1.old) (length work2.old) }
 {
     let lock = open_lock::<K>(lock)?;
     sizes_right::<K, S>(lock, first.len(), answer.len(), work1.len(), work2.len())?;
@@ -40,7 +40,7 @@ pub fn verify<K: ElementKind, S: Sealer>(
     work1: &mut [u8],
     work2: &mut [u8],
 ) -> Result<(), Fault>
-    ensures outcome { result ≡ verified kind sealing lock.now first.now pick answer.now (length work1.old) (length work2.old) }
+    ensures outcome { result ≡ verified K.kind S.sealing lock.now first.now pick answer.now (length work1.old) (length work2.old) }
     ensures cleared { work1.new ≡ work_after work1.old }
     ensures nextcleared { work2.new ≡ work_after work2.old }
 {

@@ -28,18 +28,18 @@ pub(crate) fn rerun_views<'a, K: ElementKind>(
     work: &mut [u8],
     next_work: &mut [u8],
 ) -> Option<usize>
-    requires stands { Stands kind lock }
-    requires sized { length picked.now ≡ view_length kind lock.inputs lock.products }
-    requires nextsized { length following.now ≡ view_length kind lock.inputs lock.products }
-    requires formed { ViewLawful kind (view_of kind (circuit_of kind lock) picked.now).1 }
-    requires nextformed { ViewLawful kind (view_of kind (circuit_of kind lock) following.now).1 }
-    requires room { work_length kind lock.inputs lock.gates ≤ length work.old }
-    requires nextroom { work_length kind lock.inputs lock.gates ≤ length next_work.old }
-    ensures wrong { result ≡ wrong_product kind (the_branch branch) (next (the_branch branch)) lock.entry.inputs (circuit_of kind lock.entry).gates (view_of kind (circuit_of kind lock.entry) picked.now).1 (view_of kind (circuit_of kind lock.entry) following.now).1 }
-    ensures first { wires_in kind (lock.entry.inputs + lock.entry.gates) work.new ≡ rerun (ops_of kind) (the_branch branch) (circuit_of kind lock.entry).gates (view_of kind (circuit_of kind lock.entry) picked.now).1 }
-    ensures second { wires_in kind (lock.entry.inputs + lock.entry.gates) next_work.new ≡ rerun (ops_of kind) (next (the_branch branch)) (circuit_of kind lock.entry).gates (view_of kind (circuit_of kind lock.entry) following.now).1 }
-    ensures lawful { All (Lawful kind) (wires_in kind (lock.entry.inputs + lock.entry.gates) work.new) }
-    ensures nextlawful { All (Lawful kind) (wires_in kind (lock.entry.inputs + lock.entry.gates) next_work.new) }
+    requires stands { Stands K.kind lock }
+    requires sized { length picked.now ≡ view_length K.kind lock.inputs lock.products }
+    requires nextsized { length following.now ≡ view_length K.kind lock.inputs lock.products }
+    requires formed { ViewLawful K.kind (view_of K.kind (circuit_of K.kind lock) picked.now).1 }
+    requires nextformed { ViewLawful K.kind (view_of K.kind (circuit_of K.kind lock) following.now).1 }
+    requires room { work_length K.kind lock.inputs lock.gates ≤ length work.old }
+    requires nextroom { work_length K.kind lock.inputs lock.gates ≤ length next_work.old }
+    ensures wrong { result ≡ wrong_product K.kind (the_branch branch) (next (the_branch branch)) lock.entry.inputs (circuit_of K.kind lock.entry).gates (view_of K.kind (circuit_of K.kind lock.entry) picked.now).1 (view_of K.kind (circuit_of K.kind lock.entry) following.now).1 }
+    ensures first { wires_in K.kind (lock.entry.inputs + lock.entry.gates) work.new ≡ rerun (ops_of K.kind) (the_branch branch) (circuit_of K.kind lock.entry).gates (view_of K.kind (circuit_of K.kind lock.entry) picked.now).1 }
+    ensures second { wires_in K.kind (lock.entry.inputs + lock.entry.gates) next_work.new ≡ rerun (ops_of K.kind) (next (the_branch branch)) (circuit_of K.kind lock.entry).gates (view_of K.kind (circuit_of K.kind lock.entry) following.now).1 }
+    ensures lawful { All (Lawful K.kind) (wires_in K.kind (lock.entry.inputs + lock.entry.gates) work.new) }
+    ensures nextlawful { All (Lawful K.kind) (wires_in K.kind (lock.entry.inputs + lock.entry.gates) next_work.new) }
 {
     let view = view_parts::<K>(lock, picked);
     let next_view = view_parts::<K>(lock, following);

@@ -9,19 +9,19 @@ use kinds::kind::ElementKind;
 
 impl Lock<'_> {
     pub fn key_length<K: ElementKind>(&self) -> usize
-        ensures { result ≡ key_length kind self.now.inputs }
+        ensures { result ≡ key_length K.kind self.now.inputs }
     {
         group_length::<K>(self.inputs as usize)
     }
 
     pub fn view_length<K: ElementKind>(&self) -> usize
-        ensures { result ≡ view_length kind self.now.inputs self.now.products }
+        ensures { result ≡ view_length K.kind self.now.inputs self.now.products }
     {
         lengths::view_length::<K>(self.inputs as usize, self.products as usize)
     }
 
     pub fn tape_length<K: ElementKind>(&self) -> usize
-        ensures { result ≡ tape_length kind self.now.inputs self.now.products }
+        ensures { result ≡ tape_length K.kind self.now.inputs self.now.products }
     {
         96 + 2 * group_length::<K>(self.inputs as usize)
             + 3 * group_length::<K>(self.products as usize)
@@ -29,19 +29,19 @@ impl Lock<'_> {
 
     // With seals of `seal` bytes.
     pub fn first_length<K: ElementKind>(&self, seal: u8) -> usize
-        ensures { result ≡ first_length kind self.now.outputs seal }
+        ensures { result ≡ first_length K.kind self.now.outputs seal }
     {
         2 + 3 * group_length::<K>(self.outputs as usize) + 3 * seal as usize
     }
 
     pub fn answer_length<K: ElementKind>(&self) -> usize
-        ensures { result ≡ answer_length kind self.now.inputs self.now.products }
+        ensures { result ≡ answer_length K.kind self.now.inputs self.now.products }
     {
         3 + 2 * lengths::view_length::<K>(self.inputs as usize, self.products as usize)
     }
 
     pub fn work_length<K: ElementKind>(&self) -> usize
-        ensures { result ≡ work_length kind self.now.inputs self.now.gates }
+        ensures { result ≡ work_length K.kind self.now.inputs self.now.gates }
     {
         rows_length::<K>(self.inputs as usize + self.gates as usize)
     }

@@ -17,7 +17,7 @@ use kinds::kind::ElementKind;
 // The records behind the header, all tested, and nothing behind them; gives the number of products.
 fn products<K: ElementKind>(counts: Counts, records: &[u8]) -> Result<usize, Fault>
     requires few { (counts.inputs ≤ 1024) × (counts.gates ≤ 200000) }
-    ensures { result ≡ map_ok (λ l. mus l.gates) (records_of kind counts 15 records.now) }
+    ensures { result ≡ map_ok (λ l. mus l.gates) (records_of K.kind counts 15 records.now) }
 {
     let mut reader = Reader::behind_header(records);
     let products = reader.gates::<K>(counts.inputs, counts.gates)?;
@@ -28,9 +28,9 @@ fn products<K: ElementKind>(counts: Counts, records: &[u8]) -> Result<usize, Fau
 
 // The lock of this kind that the bytes hold, or the fault of the first rule that they break.
 pub fn read_lock<'a, K: ElementKind>(bytes: &'a [u8]) -> Result<Lock<'a>, Fault>
-    ensures outcome { map_ok summary_of result ≡ map_ok summary (lock_of kind bytes.now) }
-    ensures exact { Reads kind bytes.now }
-    ensures walk { Walkable kind bytes.now (map_ok record_bytes result) (lock_of kind bytes.now) }
+    ensures outcome { map_ok summary_of result ≡ map_ok summary (lock_of K.kind bytes.now) }
+    ensures exact { Reads K.kind bytes.now }
+    ensures walk { Walkable K.kind bytes.now (map_ok record_bytes result) (lock_of K.kind bytes.now) }
 {
     let counts = header::<K>(bytes)?;
     let records = &bytes[HEADER_LENGTH..];

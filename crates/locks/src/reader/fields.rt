@@ -36,7 +36,7 @@ pub(crate) fn read_number(fields: &[u8], at: usize) -> usize
 }
 
 fn wire_and_row<'a, K: ElementKind>(fields: &'a [u8], at: usize) -> Result<(usize, &'a [u8]), Fault>
-    ensures { map_ok fields_of result ≡ wire_and_row kind at fields.now }
+    ensures { map_ok fields_of result ≡ wire_and_row K.kind at fields.now }
 {
     let width = K::row_length();
     if fields.len() < 4 + width {
@@ -46,7 +46,7 @@ fn wire_and_row<'a, K: ElementKind>(fields: &'a [u8], at: usize) -> Result<(usiz
 }
 
 fn two_wires<K: ElementKind>(fields: &[u8], at: usize) -> Result<(usize, usize), Fault>
-    ensures { result ≡ two_wires kind at fields.now }
+    ensures { result ≡ two_wires K.kind at fields.now }
 {
     if fields.len() < 8 {
         return Err(Fault::at(Reason::Truncated, at));
@@ -59,7 +59,7 @@ fn gate_body<'a, K: ElementKind>(
     fields: &'a [u8],
     at: usize,
 ) -> Result<GateRecord<'a>, Fault>
-    ensures { map_ok gate_of result ≡ gate_body kind at mark fields.now }
+    ensures { map_ok gate_of result ≡ gate_body K.kind at mark fields.now }
 {
     match mark {
         Some(GateMark::AddConstant) => {
@@ -87,7 +87,7 @@ pub(crate) fn gate_in<'a, K: ElementKind>(
     bytes: &'a [u8],
     at: usize,
 ) -> Result<GateRecord<'a>, Fault>
-    ensures { map_ok gate_of result ≡ gate_in kind at bytes.now }
+    ensures { map_ok gate_of result ≡ gate_in K.kind at bytes.now }
 {
     let [first, second, fields @ ..] = bytes else {
         return Err(Fault::at(Reason::Truncated, at));
@@ -100,7 +100,7 @@ fn output_body<'a, K: ElementKind>(
     fields: &'a [u8],
     at: usize,
 ) -> Result<OutputRecord<'a>, Fault>
-    ensures { map_ok output_of result ≡ output_body kind at marked fields.now }
+    ensures { map_ok output_of result ≡ output_body K.kind at marked fields.now }
 {
     if !marked {
         return Err(Fault::at(Reason::WrongMark, at));
@@ -114,7 +114,7 @@ pub(crate) fn output_in<'a, K: ElementKind>(
     bytes: &'a [u8],
     at: usize,
 ) -> Result<OutputRecord<'a>, Fault>
-    ensures { map_ok output_of result ≡ output_in kind at bytes.now }
+    ensures { map_ok output_of result ≡ output_in K.kind at bytes.now }
 {
     let [first, second, fields @ ..] = bytes else {
         return Err(Fault::at(Reason::Truncated, at));
@@ -125,7 +125,7 @@ pub(crate) fn output_in<'a, K: ElementKind>(
 impl GateRecord<'_> {
     // How many bytes the record has.
     pub(crate) fn size<K: ElementKind>(&self) -> usize
-        ensures { result ≡ gate_size kind (gate_of self.now) }
+        ensures { result ≡ gate_size K.kind (gate_of self.now) }
     {
         match self {
             GateRecord::AddConstant { .. } | GateRecord::MultiplyConstant { .. } => 6

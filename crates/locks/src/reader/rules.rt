@@ -10,7 +10,7 @@ use faults::{Fault, Reason};
 use kinds::kind::ElementKind;
 
 fn is_lawful<K: ElementKind>(row: &[u8]) -> bool
-    ensures { result ≡ kind.lawful row.now }
+    ensures { result ≡ K.kind.lawful row.now }
 {
     K::read(row).is_some()
 }
@@ -32,7 +32,7 @@ fn wire_and_row_right<K: ElementKind>(
     at: usize,
 ) -> Result<(), Fault>
     requires { at + 6 < 2 ^ 64 }
-    ensures { result ≡ wire_and_row_right kind at own wire row.now }
+    ensures { result ≡ wire_and_row_right K.kind at own wire row.now }
 {
     wire_right(wire, own, at + 2)?;
     if !is_lawful::<K>(row) {
@@ -48,7 +48,7 @@ fn two_wires_right<K: ElementKind>(
     at: usize,
 ) -> Result<(), Fault>
     requires { at + 6 < 2 ^ 64 }
-    ensures { result ≡ two_wires_right kind at own left right }
+    ensures { result ≡ two_wires_right K.kind at own left right }
 {
     wire_right(left, own, at + 2)?;
     wire_right(right, own, at + 6)
@@ -58,7 +58,7 @@ impl GateRecord<'_> {
     // The fields of a gate that writes wire `own`.
     pub(crate) fn right<K: ElementKind>(self, own: usize, at: usize) -> Result<(), Fault>
         requires { at + 6 < 2 ^ 64 }
-        ensures { result ≡ gate_right kind at own (gate_of self.entry) }
+        ensures { result ≡ gate_right K.kind at own (gate_of self.entry) }
     {
         match self {
             GateRecord::AddConstant { wire, constant }
@@ -79,7 +79,7 @@ impl GateRecord<'_> {
         at: usize,
     ) -> Result<usize, Fault>
         requires few { (inputs ≤ 1024) × (products ≤ 200000) }
-        ensures { result ≡ counted kind at inputs products (gate_of self.entry) }
+        ensures { result ≡ counted K.kind at inputs products (gate_of self.entry) }
     {
         let GateRecord::Multiply { .. } = self else {
             return Ok(products);
@@ -95,7 +95,7 @@ impl OutputRecord<'_> {
     // The fields of an output of a lock with so many wires.
     pub(crate) fn right<K: ElementKind>(self, wires: usize, at: usize) -> Result<(), Fault>
         requires { at + 6 < 2 ^ 64 }
-        ensures { result ≡ output_right kind at wires (output_of self.entry) }
+        ensures { result ≡ output_right K.kind at wires (output_of self.entry) }
     {
         wire_and_row_right::<K>(self.wire, self.target, wires, at)
     }

@@ -40,8 +40,8 @@ impl<'a> Reader<'a> {
 
     // The gate record here, its fields untested.
     pub fn gate<K: ElementKind>(&mut self) -> Result<GateRecord<'a>, Fault>
-        ensures outcome { map_ok gate_of result ≡ gate_in kind self.old.at self.old.rest.now }
-        ensures stands { standing self.new ≡ past_gate kind (map_ok gate_of result) (standing self.old) }
+        ensures outcome { map_ok gate_of result ≡ gate_in K.kind self.old.at self.old.rest.now }
+        ensures stands { standing self.new ≡ past_gate K.kind (map_ok gate_of result) (standing self.old) }
     {
         let gate = gate_in::<K>(self.rest, self.at)?;
         self.skip(gate.size::<K>());
@@ -50,8 +50,8 @@ impl<'a> Reader<'a> {
 
     // The output record here, its fields untested.
     pub fn output<K: ElementKind>(&mut self) -> Result<OutputRecord<'a>, Fault>
-        ensures outcome { map_ok output_of result ≡ output_in kind self.old.at self.old.rest.now }
-        ensures stands { standing self.new ≡ past_output kind (map_ok output_of result) (standing self.old) }
+        ensures outcome { map_ok output_of result ≡ output_in K.kind self.old.at self.old.rest.now }
+        ensures stands { standing self.new ≡ past_output K.kind (map_ok output_of result) (standing self.old) }
     {
         let output = output_in::<K>(self.rest, self.at)?;
         self.skip(6 + K::row_length());
@@ -77,8 +77,8 @@ impl<'a> Reader<'a> {
         products: usize,
     ) -> Result<usize, Fault>
         requires few { (inputs ≤ 1024) × (products ≤ 200000) }
-        ensures outcome { result ≡ gate_tested kind inputs own products self.old.at self.old.rest.now }
-        ensures stands { standing self.new ≡ past_gate kind (gate_in kind self.old.at self.old.rest.now) (standing self.old) }
+        ensures outcome { result ≡ gate_tested K.kind inputs own products self.old.at self.old.rest.now }
+        ensures stands { standing self.new ≡ past_gate K.kind (gate_in K.kind self.old.at self.old.rest.now) (standing self.old) }
     {
         let at = self.at;
         let gate = self.gate::<K>()?;
@@ -93,7 +93,7 @@ impl<'a> Reader<'a> {
         count: usize,
     ) -> Result<usize, Fault>
         requires few { (inputs ≤ 1024) × (count ≤ 200000) }
-        ensures { reached result (standing self.new) ≡ map_ok (tally 0) (gates_from kind inputs count inputs 0 self.old.at self.old.rest.now) }
+        ensures { reached result (standing self.new) ≡ map_ok (tally 0) (gates_from K.kind inputs count inputs 0 self.old.at self.old.rest.now) }
     {
         let mut products = 0;
         for j in 0..count {
@@ -104,8 +104,8 @@ impl<'a> Reader<'a> {
 
     // One output more of a lock with so many wires.
     fn next_output<K: ElementKind>(&mut self, wires: usize) -> Result<(), Fault>
-        ensures outcome { result ≡ output_tested kind wires self.old.at self.old.rest.now }
-        ensures stands { standing self.new ≡ past_output kind (output_in kind self.old.at self.old.rest.now) (standing self.old) }
+        ensures outcome { result ≡ output_tested K.kind wires self.old.at self.old.rest.now }
+        ensures stands { standing self.new ≡ past_output K.kind (output_in K.kind self.old.at self.old.rest.now) (standing self.old) }
     {
         let at = self.at;
         let output = self.output::<K>()?;
@@ -117,7 +117,7 @@ impl<'a> Reader<'a> {
         wires: usize,
         count: usize,
     ) -> Result<(), Fault>
-        ensures { reached result (standing self.new) ≡ map_ok all_read (outputs_from kind count wires self.old.at self.old.rest.now) }
+        ensures { reached result (standing self.new) ≡ map_ok all_read (outputs_from K.kind count wires self.old.at self.old.rest.now) }
     {
         for _j in 0..count {
             self.next_output::<K>(wires)?;
