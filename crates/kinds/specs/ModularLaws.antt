@@ -100,13 +100,13 @@ module _ (k m : ℕ) (some : 0 < m) (most : m ≤ 4294967296) where
         ∙ add-mod-mod (number_of x) (m - number_of x) m
         ∙ ap (λ (q : ℕ). q % m) (let s : number_of x + (m - number_of x) ≡ m = omega arith in s)
         ∙ mod_self m);
-    mul-add = λ x y z h l n.
+    mul_add = λ x y z h l n.
         ap four_bytes
         (ap (λ (q : ℕ). (number_of x * q) % m) (number_mod (number_of y + number_of z))
         ∙ mul_mod_mod (number_of x) (number_of y + number_of z) m
         ∙ ap (λ (q : ℕ). q % m) (mul-add (number_of x) (number_of y) (number_of z))
         ∙ sums (number_of x * number_of y) (number_of x * number_of z));
-    add-mul = λ x y z h l n.
+    add_mul = λ x y z h l n.
         ap four_bytes
         (ap (λ (q : ℕ). (q * number_of z) % m) (number_mod (number_of x + number_of y))
         ∙ mod_mul_mod (number_of x + number_of y) (number_of z) m

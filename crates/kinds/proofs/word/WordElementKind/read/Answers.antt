@@ -6,5 +6,5 @@ use Rattle.kinds.proofs.word.WordElementKind.read.Goals as goal
 pub returns-in-len4 : goal.returns-in-len4
 returns-in-len4 c =
     let h : length c.args.bytes.now ≡ 4 = omega (arith, ltb-true, ltb-false) in
-    let b = c.type-inv.bytes in
-    ap four_bytes c.from-be-bytes.ensures ∙ four_from c.args.bytes.now h (search rules) (search rules) (search rules) (search rules)
+    let b = c.type_inv.bytes in
+    ap four_bytes c.from_be_bytes.ensures ∙ four_from c.args.bytes.now h (search rules) (search rules) (search rules) (search rules)
