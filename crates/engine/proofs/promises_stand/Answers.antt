@@ -3,9 +3,9 @@ use Rattle.engine.proofs.promises_stand.Goals as goal
 
 pub returns : goal.returns
 returns c = record {
-  sound = c.promises-stand.ensures.sound;
-  complete = c.promises-stand.ensures.complete;
-  hides = c.promises-stand.ensures.hides;
-  example = c.worked-stands.ensures.example;
-  met = c.worked-stands.ensures.met;
+  sound = c.promises_stand.ensures.sound;
+  complete = c.promises_stand.ensures.complete;
+  hides = c.promises_stand.ensures.hides;
+  example = c.worked_stands.ensures.example;
+  met = c.worked_stands.ensures.met;
 }

@@ -11,7 +11,7 @@ pub loop-i-preserved : goal.loop-i-preserved
 unfolding absorbed
 loop-i-preserved c =
     blocks_more absorbed 136 c.args.a.now c.args.bytes.now c.loop-i.a _ c.loop-i.i c.loop-i.invariant
-    (c.permute.ensures ∙ ap (keccak 24) c.mix-in.ensures)
+    (c.permute.ensures ∙ ap (keccak 24) c.mix_in.ensures)
 
 pub returns : goal.returns
 returns c = let e : c.loop-i.i ≡ c.args.count = omega arith in cc

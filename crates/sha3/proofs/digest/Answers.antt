@@ -7,4 +7,4 @@ pub returns : goal.returns
 returns c =
     let m = c.args.message.now in
     whole m c.pad-tail.result c.absorb.new.a c.absorb-2.new.a _ (length m / 136) refl c.absorb.ensures
-    (simp take_rest at c.pad-tail.ensures) c.absorb-2.ensures c.write-le.ensures
+    (simp take_rest at c.pad-tail.ensures) c.absorb-2.ensures c.write_le.ensures

@@ -4,5 +4,5 @@ use Rattle.branches.proofs.bytes.same_bytes.Goals as goal
 
 pub returns : goal.returns
 returns c =
-    not_some _ c.is-none.result _ c.is-none.ensures
-    (ap (λ (o : Option ℕ). not (is_some o)) c.first-difference.ensures ∙ differ_same c.args.left.now c.args.right.now)
+    not_some _ c.is_none.result _ c.is_none.ensures
+    (ap (λ (o : Option ℕ). not (is_some o)) c.first_difference.ensures ∙ differ_same c.args.left.now c.args.right.now)

@@ -6,13 +6,13 @@ use Rattle.theory.proofs.Groups.{counted}
 use Rattle.branches.proofs.Firsts.{first_passed, first_failed, unlawful_here, unlawful_end}
 use Rattle.branches.proofs.groups.first_unlawful.Goals as goal
 
-pub returns-then-not-is-lawful : goal.returns-then-not-is-lawful
-returns-then-not-is-lawful g c =
+pub returns-then-not-is_lawful : goal.returns-then-not-is_lawful
+returns-then-not-is_lawful g c =
     let kind = g.K.ElementKind.kind in
     let xs = group kind c.args.n c.args.bytes.now in
     let i = c.loop-i.i in
     let lt : c.loop-i.i < length (group g.K.ElementKind.kind c.args.n c.args.bytes.now) = omega (arith, counted g.K.ElementKind.kind c.args.n c.args.bytes.now, c.loop-i-test.true) in
-    first_failed i (kind.lawful (read (ops_of kind) xs i)) _ _ (unlawful_here kind xs i lt) (sym c.is-lawful.ensures ∙ c.if-not-is-lawful.true) ∙ c.loop-i.invariant
+    first_failed i (kind.lawful (read (ops_of kind) xs i)) _ _ (unlawful_here kind xs i lt) (sym c.is_lawful.ensures ∙ c.if-not-is_lawful.true) ∙ c.loop-i.invariant
 
 pub loop-i-preserved : goal.loop-i-preserved
 loop-i-preserved g c =
@@ -20,7 +20,7 @@ loop-i-preserved g c =
     let xs = group kind c.args.n c.args.bytes.now in
     let i = c.loop-i.i in
     let lt : c.loop-i.i < length (group g.K.ElementKind.kind c.args.n c.args.bytes.now) = omega (arith, counted g.K.ElementKind.kind c.args.n c.args.bytes.now, c.loop-i-test.true) in
-    first_passed i (kind.lawful (read (ops_of kind) xs i)) _ _ (unlawful_here kind xs i lt) (sym c.is-lawful.ensures ∙ c.if-not-is-lawful.false) ∙ c.loop-i.invariant
+    first_passed i (kind.lawful (read (ops_of kind) xs i)) _ _ (unlawful_here kind xs i lt) (sym c.is_lawful.ensures ∙ c.if-not-is_lawful.false) ∙ c.loop-i.invariant
 
 pub returns : goal.returns
 returns g c =

@@ -1,10 +1,10 @@
 use Rattle.std.proofs.Common.{◌≡◌, ℕ, ◌*◌, ap, arith}
 use Rattle.branches.proofs.groups.group_length.Goals as goal
 
-pub overflow-mul-result : goal.overflow-mul-result
-overflow-mul-result g c =
-    let e : c.args.n * c.row-length.result ≡ c.args.n * g.K.ElementKind.kind.width = ap (λ (w : ℕ). c.args.n * w) c.row-length.ensures in
+pub overflow_mul-result : goal.overflow_mul-result
+overflow_mul-result g c =
+    let e : c.args.n * c.row_length.result ≡ c.args.n * g.K.ElementKind.kind.width = ap (λ (w : ℕ). c.args.n * w) c.row_length.ensures in
     record { fits = omega (arith, e, c.requires) }
 
 pub returns : goal.returns
-returns g c = ap (λ (w : ℕ). c.args.n * w) c.row-length.ensures
+returns g c = ap (λ (w : ℕ). c.args.n * w) c.row_length.ensures

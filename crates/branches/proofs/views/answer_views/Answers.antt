@@ -7,6 +7,6 @@ use Rattle.branches.proofs.views.answer_views.Goals as goal
 pub returns : goal.returns
 returns g c =
     let kind = g.K.ElementKind.kind in
-    let a = answer_cut kind (circuit_of kind c.args.lock) c.args.answer.now c.args.lock.products c.view-length-end.result
-    (sym (ap (λ (s : Summary). s.products) c.requires.stands.summed)) c.view-length-end.ensures c.requires.sized in
+    let a = answer_cut kind (circuit_of kind c.args.lock) c.args.answer.now c.args.lock.products c.view_length-end.result
+    (sym (ap (λ (s : Summary). s.products) c.requires.stands.summed)) c.view_length-end.ensures c.requires.sized in
     record { picked = a.picked; following = a.following; sizes = (a.picked_size, a.following_size) }

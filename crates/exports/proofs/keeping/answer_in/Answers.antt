@@ -12,9 +12,9 @@ returns-in-Some c =
     let t = c.front.result.now in
     let k = resumed_from c.args.state.now.view_length t store in
     let e = opened s store t (ap (λ (l : List RoundState). Some l) c.front.ensures ∙ c.in-Some.ensures) in
-    let x = carried s store (λ k. answer_result k c.args.round c.args.pick (length c.args.answer.now)) (λ k. after_answer k c.args.round c.args.pick (length c.args.answer.now)) k e refl refl c.answer-over.result c.answer-over.new.state c.answer-over.new.store
-    c.answer-over.ensures.outcome (answer_keeps k c.args.round c.args.pick (length c.args.answer.now)) c.answer-over.ensures.leaves c.answer-over.auto.store in
-    record { outcome = c.told_by.ensures ∙ x.outcome; store = x.store_is; state = x.state_is; next = x.next; shown = buffer_is s store k e (λ k. answer_after k c.args.round c.args.pick c.args.answer.now) c.args.answer.now c.answer-over.new.answer c.answer-over.ensures.shown }
+    let x = carried s store (λ k. answer_result k c.args.round c.args.pick (length c.args.answer.now)) (λ k. after_answer k c.args.round c.args.pick (length c.args.answer.now)) k e refl refl c.answer_over.result c.answer_over.new.state c.answer_over.new.store
+    c.answer_over.ensures.outcome (answer_keeps k c.args.round c.args.pick (length c.args.answer.now)) c.answer_over.ensures.leaves c.answer_over.auto.store in
+    record { outcome = c.told_by.ensures ∙ x.outcome; store = x.store_is; state = x.state_is; next = x.next; shown = buffer_is s store k e (λ k. answer_after k c.args.round c.args.pick c.args.answer.now) c.args.answer.now c.answer_over.new.answer c.answer_over.ensures.shown }
 
 pub returns-in-None : goal.returns-in-None
 returns-in-None c =

@@ -12,8 +12,8 @@ returns-in-Some c =
     let t = c.front.result.now in
     let k = resumed_from c.args.state.now.view_length t store in
     let e = opened s store t (ap (λ (l : List RoundState). Some l) c.front.ensures ∙ c.in-Some.ensures) in
-    let x = carried s store (λ k. drop_result k c.args.round) (λ k. after_drop k c.args.round) k e refl refl c.drop-over.result c.drop-over.new.state c.drop-over.new.store
-    c.drop-over.ensures.outcome (drop_keeps k c.args.round) c.drop-over.ensures.leaves c.drop-over.auto.store in
+    let x = carried s store (λ k. drop_result k c.args.round) (λ k. after_drop k c.args.round) k e refl refl c.drop_over.result c.drop_over.new.state c.drop_over.new.store
+    c.drop_over.ensures.outcome (drop_keeps k c.args.round) c.drop_over.ensures.leaves c.drop_over.auto.store in
     record { outcome = c.told_by.ensures ∙ x.outcome; store = x.store_is; state = x.state_is; next = x.next }
 
 pub returns-in-None : goal.returns-in-None

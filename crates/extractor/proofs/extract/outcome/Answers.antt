@@ -12,33 +12,33 @@ use Rattle.extractor.proofs.extract.outcome.Goals as goal
 pub accepted-requires : goal.accepted-requires
 accepted-requires g c =
     let k = g.K.ElementKind.kind in
-    let r = ready k g.S.Sealer.sealing c.args.lock.now c.args.first.now c.args.answers (length c.args.work1.now) (length c.args.work2.now) c.args.key.now c.in-ok-lock.lock c.open-lock.result
-    c.open-lock.ensures.outcome c.open-lock.ensures.stands (at_ok 0 c.open-lock.result c.in-ok-lock.lock (sym c.at_pick.ensures ∙ c.in-ok-lock.was))
-    (sym c.sizes-right-sizes.ensures ∙ at_ok 0 c.sizes-right-sizes.result _ (sym c.at-pick-2.ensures ∙ c.in-ok-at-pick.was)) in
+    let r = ready k g.S.Sealer.sealing c.args.lock.now c.args.first.now c.args.answers (length c.args.work1.now) (length c.args.work2.now) c.args.key.now c.in_ok-lock.lock c.open_lock.result
+    c.open_lock.ensures.outcome c.open_lock.ensures.stands (at_ok 0 c.open_lock.result c.in_ok-lock.lock (sym c.at_pick.ensures ∙ c.in_ok-lock.was))
+    (sym c.sizes_right-sizes.ensures ∙ at_ok 0 c.sizes_right-sizes.result _ (sym c.at_pick-2.ensures ∙ c.in_ok-at_pick.was)) in
     record { stands = r.stands; sealable = r.sealable; firstsized = r.first_sized; sized = r.sized; room = r.room; nextroom = r.next_room }
 
-pub returns-in-err-accepted : goal.returns-in-err-accepted
-returns-in-err-accepted g c =
+pub returns-in_err-accepted : goal.returns-in_err-accepted
+returns-in_err-accepted g c =
     let k = g.K.ElementKind.kind in
     let s = g.S.Sealer.sealing in
-    let p = err_from_is_err_and c.from-residual-in-err-accepted.result c.from-residual-in-err-accepted.ensures.1 in
-    let f = c.in-err-accepted.field-0.0 in
-    let r = ready k s c.args.lock.now c.args.first.now c.args.answers (length c.args.work1.now) (length c.args.work2.now) c.args.key.now c.in-ok-lock.lock c.open-lock.result
-    c.open-lock.ensures.outcome c.open-lock.ensures.stands (at_ok 0 c.open-lock.result c.in-ok-lock.lock (sym c.at_pick.ensures ∙ c.in-ok-lock.was))
-    (sym c.sizes-right-sizes.ensures ∙ at_ok 0 c.sizes-right-sizes.result _ (sym c.at-pick-2.ensures ∙ c.in-ok-at-pick.was)) in
-    let e = answers_refused k s c.args.lock.now c.args.first.now (answers_of c.args.answers) (length c.args.work1.now) (length c.args.work2.now) c.args.key.now (circuit_of k c.in-ok-lock.lock) r.read f r.sizes
-    (sym c.accepted.ensures ∙ c.in-err-accepted.was) in
+    let p = err_from_is_err_and c.from_residual-in_err-accepted.result c.from_residual-in_err-accepted.ensures.1 in
+    let f = c.in_err-accepted.field-0.0 in
+    let r = ready k s c.args.lock.now c.args.first.now c.args.answers (length c.args.work1.now) (length c.args.work2.now) c.args.key.now c.in_ok-lock.lock c.open_lock.result
+    c.open_lock.ensures.outcome c.open_lock.ensures.stands (at_ok 0 c.open_lock.result c.in_ok-lock.lock (sym c.at_pick.ensures ∙ c.in_ok-lock.was))
+    (sym c.sizes_right-sizes.ensures ∙ at_ok 0 c.sizes_right-sizes.result _ (sym c.at_pick-2.ensures ∙ c.in_ok-at_pick.was)) in
+    let e = answers_refused k s c.args.lock.now c.args.first.now (answers_of c.args.answers) (length c.args.work1.now) (length c.args.work2.now) c.args.key.now (circuit_of k c.in_ok-lock.lock) r.read f r.sizes
+    (sym c.accepted.ensures ∙ c.in_err-accepted.was) in
     record { outcome = p.1 ∙ ap Err p.2 ∙ sym e; key = key_stays k s c.args.lock.now c.args.first.now (answers_of c.args.answers) (length c.args.work1.now) (length c.args.work2.now) c.args.key.now f e }
 
 pub give-requires : goal.give-requires
 give-requires g c =
     let k = g.K.ElementKind.kind in
     let s = g.S.Sealer.sealing in
-    let l = circuit_of k c.in-ok-lock.lock in
-    let r = ready k s c.args.lock.now c.args.first.now c.args.answers (length c.args.work1.now) (length c.args.work2.now) c.args.key.now c.in-ok-lock.lock c.open-lock.result
-    c.open-lock.ensures.outcome c.open-lock.ensures.stands (at_ok 0 c.open-lock.result c.in-ok-lock.lock (sym c.at_pick.ensures ∙ c.in-ok-lock.was))
-    (sym c.sizes-right-sizes.ensures ∙ at_ok 0 c.sizes-right-sizes.result _ (sym c.at-pick-2.ensures ∙ c.in-ok-at-pick.was)) in
-    let a = each_right k s l c.args.first.now (answers_of c.args.answers) (sym c.accepted.ensures ∙ c.in-ok-accepted.was) in
+    let l = circuit_of k c.in_ok-lock.lock in
+    let r = ready k s c.args.lock.now c.args.first.now c.args.answers (length c.args.work1.now) (length c.args.work2.now) c.args.key.now c.in_ok-lock.lock c.open_lock.result
+    c.open_lock.ensures.outcome c.open_lock.ensures.stands (at_ok 0 c.open_lock.result c.in_ok-lock.lock (sym c.at_pick.ensures ∙ c.in_ok-lock.was))
+    (sym c.sizes_right-sizes.ensures ∙ at_ok 0 c.sizes_right-sizes.result _ (sym c.at_pick-2.ensures ∙ c.in_ok-at_pick.was)) in
+    let a = each_right k s l c.args.first.now (answers_of c.args.answers) (sym c.accepted.ensures ∙ c.in_ok-accepted.was) in
     record {
       stands = r.stands;
       sized = r.sized;
@@ -54,11 +54,11 @@ pub returns : goal.returns
 returns g c =
     let k = g.K.ElementKind.kind in
     let s = g.S.Sealer.sealing in
-    let l = circuit_of k c.in-ok-lock.lock in
-    let r = ready k s c.args.lock.now c.args.first.now c.args.answers (length c.args.work1.now) (length c.args.work2.now) c.args.key.now c.in-ok-lock.lock c.open-lock.result
-    c.open-lock.ensures.outcome c.open-lock.ensures.stands (at_ok 0 c.open-lock.result c.in-ok-lock.lock (sym c.at_pick.ensures ∙ c.in-ok-lock.was))
-    (sym c.sizes-right-sizes.ensures ∙ at_ok 0 c.sizes-right-sizes.result _ (sym c.at-pick-2.ensures ∙ c.in-ok-at-pick.was)) in
+    let l = circuit_of k c.in_ok-lock.lock in
+    let r = ready k s c.args.lock.now c.args.first.now c.args.answers (length c.args.work1.now) (length c.args.work2.now) c.args.key.now c.in_ok-lock.lock c.open_lock.result
+    c.open_lock.ensures.outcome c.open_lock.ensures.stands (at_ok 0 c.open_lock.result c.in_ok-lock.lock (sym c.at_pick.ensures ∙ c.in_ok-lock.was))
+    (sym c.sizes_right-sizes.ensures ∙ at_ok 0 c.sizes_right-sizes.result _ (sym c.at_pick-2.ensures ∙ c.in_ok-at_pick.was)) in
     let e = all_accepted k s c.args.lock.now c.args.first.now (answers_of c.args.answers) (length c.args.work1.now) (length c.args.work2.now) c.args.key.now l r.read r.sizes
-    (sym c.accepted.ensures ∙ c.in-ok-accepted.was) in
+    (sym c.accepted.ensures ∙ c.in_ok-accepted.was) in
     let given = key_given k s c.args.lock.now c.args.first.now (answers_of c.args.answers) (length c.args.work1.now) (length c.args.work2.now) c.args.key.now l r.read e in
     record { outcome = ap Ok c.give.ensures.outcome ∙ sym e; key = c.give.ensures.key ∙ ap (λ (x : Extracted). key_written x (group_bytes k (key_from k s l (answers_of c.args.answers))) c.args.key.now) c.give.ensures.outcome ∙ given }

@@ -6,10 +6,10 @@ use Rattle.extractor.proofs.key.write_key.Goals as goal
 pub loop-i-preserved : goal.loop-i-preserved
 loop-i-preserved g c =
     let k = g.K.ElementKind.kind in
-    key_next k c.args.n c.args.first.now c.args.second.now c.args.third.now c.loop-i.i c.loop-i.key c.put-element.new.bytes (g.K.ElementKind.row c.sum-in-loop-i.result)
+    key_next k c.args.n c.args.first.now c.args.second.now c.args.third.now c.loop-i.i c.loop-i.key c.put_element.new.bytes (g.K.ElementKind.row c.sum-in-loop-i.result)
     c.loop-i-test.true c.loop-i.invariant
     (c.sum-in-loop-i.ensures ∙ (λ i. k.add ((c.sum.ensures ∙ (λ j. k.add (c.element-a.ensures j) (c.element-b.ensures j))) i) (c.element-c.ensures i)))
-    c.put-element.ensures.put
+    c.put_element.ensures.put
 
 pub returns : goal.returns
 returns g c =

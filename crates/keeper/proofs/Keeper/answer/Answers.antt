@@ -12,18 +12,18 @@ use Rattle.keeper.proofs.Keeper.answer.Goals as goal
 
 pub spend-requires : goal.spend-requires
 spend-requires c =
-    let a = answering (values_of c.args.self.now) c.args.round c.args.pick (length c.args.out.now) (sym c.answerable.ensures ∙ c.in-ok-answerable.was) in
+    let a = answering (values_of c.args.self.now) c.args.round c.args.pick (length c.args.out.now) (sym c.answerable.ensures ∙ c.in_ok-answerable.was) in
     record { placed = placed_here c.args.self.now c.args.round a.opened; long = a.sized; pick = (a.low, a.high) }
 
 pub mark-requires : goal.mark-requires
 mark-requires c =
-    let a = answering (values_of c.args.self.now) c.args.round c.args.pick (length c.args.out.now) (sym c.answerable.ensures ∙ c.in-ok-answerable.was) in
+    let a = answering (values_of c.args.self.now) c.args.round c.args.pick (length c.args.out.now) (sym c.answerable.ensures ∙ c.in_ok-answerable.was) in
     let p = placed_here c.args.self.now c.args.round a.opened in
     (p.low, p.high)
 
 pub returns : goal.returns
 returns c =
-    let was : answer_result (values_of c.args.self.now) c.args.round c.args.pick (length c.args.out.now) ≡ Ok tt = sym c.answerable.ensures ∙ c.in-ok-answerable.was in
+    let was : answer_result (values_of c.args.self.now) c.args.round c.args.pick (length c.args.out.now) ≡ Ok tt = sym c.answerable.ensures ∙ c.in_ok-answerable.was in
     let a = answering (values_of c.args.self.now) c.args.round c.args.pick (length c.args.out.now) was in
     let p = placed_here c.args.self.now c.args.round a.opened in
     record {

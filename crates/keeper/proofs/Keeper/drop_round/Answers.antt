@@ -8,23 +8,23 @@ use Rattle.keeper.proofs.Rooms.{placed_here}
 use Rattle.keeper.proofs.Answered.{ended_is, left_as}
 use Rattle.keeper.proofs.Keeper.drop_round.Goals as goal
 
-pub end-round-requires : goal.end-round-requires
-end-round-requires c = record { placed = placed_here c.args.self.now c.args.round (sym c.open-round.ensures ∙ c.in-ok-open-round.was) }
+pub end_round-requires : goal.end_round-requires
+end_round-requires c = record { placed = placed_here c.args.self.now c.args.round (sym c.open_round.ensures ∙ c.in_ok-open_round.was) }
 
 pub mark-requires : goal.mark-requires
 mark-requires c =
-    let p = placed_here c.args.self.now c.args.round (sym c.open-round.ensures ∙ c.in-ok-open-round.was) in
+    let p = placed_here c.args.self.now c.args.round (sym c.open_round.ensures ∙ c.in_ok-open_round.was) in
     (p.low, p.high)
 
 pub returns : goal.returns
 returns c =
     let k = c.args.self.now in
-    let opened : round_open (values_of c.args.self.now) c.args.round ≡ Ok tt = sym c.open-round.ensures ∙ c.in-ok-open-round.was in
+    let opened : round_open (values_of c.args.self.now) c.args.round ≡ Ok tt = sym c.open_round.ensures ∙ c.in_ok-open_round.was in
     let p = placed_here c.args.self.now c.args.round opened in
     record {
       outcome = sym opened;
       after =
-          ended_is (values_of c.args.self.now) c.args.round RoundState.Dropped c.end-round.new.store (take c.args.self.now.promised c.mark.new.self.records) c.end-round.ensures
+          ended_is (values_of c.args.self.now) c.args.round RoundState.Dropped c.end_round.new.store (take c.args.self.now.promised c.mark.new.self.records) c.end_round.ensures
           (ap (take c.args.self.now.promised) c.mark.ensures ∙ marked c.args.self.now.rounds.records c.args.self.now.promised c.args.round RoundState.Dropped p.low)
           ∙ left_as (round_open (values_of c.args.self.now) c.args.round) tt (λ _. ended (values_of c.args.self.now) c.args.round RoundState.Dropped) (values_of c.args.self.now) opened;
       named = refl;

@@ -12,11 +12,11 @@ returns-in-Ok g c =
     let lock = c.in-Ok.lock in
     let stands = c.in-Ok.ensures.stands in
     let read = sym c.in-Ok.ensures.outcome in
-    let told : c.promise-lock.result ≡ promise_result k (given K S c.args.lock.now c.args.key.now c.args.tape.now (length c.args.work1.now) (length c.args.work2.now) (length c.args.work3.now) (length c.args.first.now))
-    = c.promise-lock.ensures.outcome ∙ promised_is k K S c.args.lock.now c.args.key.now c.args.tape.now (length c.args.work1.now) (length c.args.work2.now) (length c.args.work3.now) (length c.args.first.now) lock stands read in
+    let told : c.promise_lock.result ≡ promise_result k (given K S c.args.lock.now c.args.key.now c.args.tape.now (length c.args.work1.now) (length c.args.work2.now) (length c.args.work3.now) (length c.args.first.now))
+    = c.promise_lock.ensures.outcome ∙ promised_is k K S c.args.lock.now c.args.key.now c.args.tape.now (length c.args.work1.now) (length c.args.work2.now) (length c.args.work3.now) (length c.args.first.now) lock stands read in
     record {
       outcome = told;
-      after = c.promise-lock.ensures.after ∙ after_is k K S c.args.lock.now c.args.key.now c.args.tape.now (length c.args.work1.now) (length c.args.work2.now) (length c.args.work3.now) (length c.args.first.now) lock stands read c.promise-lock.result told;
-      shown = c.promise-lock.ensures.shown ∙ first_is k K S c.args.lock.now c.args.key.now c.args.tape.now (length c.args.work1.now) (length c.args.work2.now) (length c.args.work3.now) (length c.args.first.now) lock stands read c.promise-lock.result c.args.first.now told;
-      named = c.promise-lock.ensures.named;
+      after = c.promise_lock.ensures.after ∙ after_is k K S c.args.lock.now c.args.key.now c.args.tape.now (length c.args.work1.now) (length c.args.work2.now) (length c.args.work3.now) (length c.args.first.now) lock stands read c.promise_lock.result told;
+      shown = c.promise_lock.ensures.shown ∙ first_is k K S c.args.lock.now c.args.key.now c.args.tape.now (length c.args.work1.now) (length c.args.work2.now) (length c.args.work3.now) (length c.args.first.now) lock stands read c.promise_lock.result c.args.first.now told;
+      named = c.promise_lock.ensures.named;
     }

@@ -2,9 +2,9 @@ use Rattle.std.proofs.Common.{ℕ, ◌*◌, ◌<◌, ◌≤◌, length, sym, sub
 use Rattle.keeper.proofs.Rooms.{few_in, short_in, enough_in}
 use Rattle.keeper.proofs.Keeper.new.Goals as goal
 
-pub invariant-of-result : goal.invariant-of-result
-invariant-of-result c =
-    let is = sym c.rounds-in-capacity.ensures in (
+pub invariant_of-result : goal.invariant_of-result
+invariant_of-result c =
+    let is = sym c.rounds_in-capacity.ensures in (
       omega arith,
       (
         subst (λ (n : ℕ). n ≤ 64) is (few_in c.args.view_length (length c.args.store.now)),

@@ -4,36 +4,36 @@ use Rattle.keeper.specs.Promise.{promised_to, Ready}
 use Rattle.keeper.proofs.Promised.{round_number, round_within, round_placed, round_ready, kept_is}
 use Rattle.keeper.proofs.Keeper.promise_lock.Goals as goal
 
-pub store-round-requires : goal.store-round-requires
-store-round-requires g c =
+pub store_round-requires : goal.store_round-requires
+store_round-requires g c =
     let K = g.K.ElementKind.kind in
     let S = g.S.Sealer.sealing in
-    let h = sym c.test-promise.ensures ∙ c.in-ok-round.was in
+    let h = sym c.test_promise.ensures ∙ c.in_ok-round.was in
     record {
-      placed = round_placed c.args.self.now K S c.args.lock c.args.key.now c.args.tape.now (length c.args.work1.now) (length c.args.work2.now) (length c.args.work3.now) (length c.args.first.now) c.in-ok-round.round c.requires.stands h;
-      ready = subst (λ (n : ℕ). Ready K S c.args.lock c.args.self.now.view_length c.args.key.now c.args.tape.now n (length c.args.work2.now) (length c.args.work3.now) (length c.args.first.now)) (sym c.test-promise.auto.work)
-          (round_ready c.args.self.now K S c.args.lock c.args.key.now c.args.tape.now (length c.args.work1.now) (length c.args.work2.now) (length c.args.work3.now) (length c.args.first.now) c.in-ok-round.round c.requires.stands h);
+      placed = round_placed c.args.self.now K S c.args.lock c.args.key.now c.args.tape.now (length c.args.work1.now) (length c.args.work2.now) (length c.args.work3.now) (length c.args.first.now) c.in_ok-round.round c.requires.stands h;
+      ready = subst (λ (n : ℕ). Ready K S c.args.lock c.args.self.now.view_length c.args.key.now c.args.tape.now n (length c.args.work2.now) (length c.args.work3.now) (length c.args.first.now)) (sym c.test_promise.auto.work)
+          (round_ready c.args.self.now K S c.args.lock c.args.key.now c.args.tape.now (length c.args.work1.now) (length c.args.work2.now) (length c.args.work3.now) (length c.args.first.now) c.in_ok-round.round c.requires.stands h);
     }
 
 pub mark-requires : goal.mark-requires
 mark-requires g c =
-    let h = sym c.test-promise.ensures ∙ c.in-ok-round.was in
-    let p = round_placed c.args.self.now g.K.ElementKind.kind g.S.Sealer.sealing c.args.lock c.args.key.now c.args.tape.now (length c.args.work1.now) (length c.args.work2.now) (length c.args.work3.now) (length c.args.first.now) c.in-ok-round.round c.requires.stands h in
+    let h = sym c.test_promise.ensures ∙ c.in_ok-round.was in
+    let p = round_placed c.args.self.now g.K.ElementKind.kind g.S.Sealer.sealing c.args.lock c.args.key.now c.args.tape.now (length c.args.work1.now) (length c.args.work2.now) (length c.args.work3.now) (length c.args.first.now) c.in_ok-round.round c.requires.stands h in
     (p.low, p.high)
 
-pub invariant-of-self : goal.invariant-of-self
-invariant-of-self g c =
-    let h = sym c.test-promise.ensures ∙ c.in-ok-round.was in
-    let w = round_within c.args.self.now g.K.ElementKind.kind g.S.Sealer.sealing c.args.lock c.args.key.now c.args.tape.now (length c.args.work1.now) (length c.args.work2.now) (length c.args.work3.now) (length c.args.first.now) c.in-ok-round.round c.requires.stands h in
-    (w, (c.args.self.now.few, (c.args.self.now.short, (subst (λ (n : ℕ). c.args.self.now.capacity * (3 * c.args.self.now.view_length) ≤ n) (sym c.store-round.auto.store) c.args.self.now.room, tt))))
+pub invariant_of-self : goal.invariant_of-self
+invariant_of-self g c =
+    let h = sym c.test_promise.ensures ∙ c.in_ok-round.was in
+    let w = round_within c.args.self.now g.K.ElementKind.kind g.S.Sealer.sealing c.args.lock c.args.key.now c.args.tape.now (length c.args.work1.now) (length c.args.work2.now) (length c.args.work3.now) (length c.args.first.now) c.in_ok-round.round c.requires.stands h in
+    (w, (c.args.self.now.few, (c.args.self.now.short, (subst (λ (n : ℕ). c.args.self.now.capacity * (3 * c.args.self.now.view_length) ≤ n) (sym c.store_round.auto.store) c.args.self.now.room, tt))))
 
 pub returns : goal.returns
 returns g c =
-    let h = sym c.test-promise.ensures ∙ c.in-ok-round.was in
+    let h = sym c.test_promise.ensures ∙ c.in_ok-round.was in
     record {
       outcome = sym h;
-      after = kept_is c.args.self.now g.K.ElementKind.kind g.S.Sealer.sealing c.args.lock c.args.key.now c.args.tape.now (length c.args.work1.now) (length c.args.work2.now) (length c.args.work3.now) (length c.args.first.now) c.in-ok-round.round c.requires.stands h
-          c.store-round.new.store c.mark.new.self.records c.store-round.ensures.store c.mark.ensures;
-      shown = c.store-round.ensures.first;
+      after = kept_is c.args.self.now g.K.ElementKind.kind g.S.Sealer.sealing c.args.lock c.args.key.now c.args.tape.now (length c.args.work1.now) (length c.args.work2.now) (length c.args.work3.now) (length c.args.first.now) c.in_ok-round.round c.requires.stands h
+          c.store_round.new.store c.mark.new.self.records c.store_round.ensures.store c.mark.ensures;
+      shown = c.store_round.ensures.first;
       named = refl;
     }

@@ -9,12 +9,12 @@ few cap L n e = omega (arith, few_in L n)
 
 pub starting-rounds-requires : goal.starting-rounds-requires
 starting-rounds-requires c =
-    let h = few c.rounds-in-capacity.result c.args.view_length (length c.args.store.now) c.rounds-in-capacity.ensures in
+    let h = few c.rounds_in-capacity.result c.args.view_length (length c.args.store.now) c.rounds_in-capacity.ensures in
     simp length-take (omega arith)
 
-pub invariant-of-result : goal.invariant-of-result
-invariant-of-result c =
-    let is = sym c.rounds-in-capacity.ensures in (
+pub invariant_of-result : goal.invariant_of-result
+invariant_of-result c =
+    let is = sym c.rounds_in-capacity.ensures in (
       omega arith,
       (
         subst (λ (n : ℕ). n ≤ 64) is (few_in c.args.view_length (length c.args.store.now)),
@@ -27,7 +27,7 @@ invariant-of-result c =
 
 pub returns : goal.returns
 returns c = record {
-  value = resumed_is c.starting-rounds.result.records c.args.table.now c.args.store.now c.args.view_length c.min-promised.result (rounds_in c.args.view_length (length c.args.store.now)) c.rounds-in-capacity.result
-      c.rounds-in-capacity.ensures c.min-promised.ensures c.starting-rounds.ensures;
+  value = resumed_is c.starting-rounds.result.records c.args.table.now c.args.store.now c.args.view_length c.min-promised.result (rounds_in c.args.view_length (length c.args.store.now)) c.rounds_in-capacity.result
+      c.rounds_in-capacity.ensures c.min-promised.ensures c.starting-rounds.ensures;
   named = refl;
 }

@@ -6,9 +6,9 @@ use Rattle.keeper.proofs.parts.end_round.Goals as goal
 
 pub returns : goal.returns
 returns c =
-    let at = c.round-start-start.result in
+    let at = c.round_start-start.result in
     let n = 3 * c.args.view_length in
-    let room : c.round-start-start.result + 3 * c.args.view_length ≤ length c.args.store.now = omega (arith, c.round-start-start.ensures, c.requires.placed.room) in
-    let zeros : c.clear.new.work ≡ replicate (3 * c.args.view_length) 0 = c.clear.ensures ∙ ap (λ (m : ℕ). replicate m 0) (long c.round-start-start.result (3 * c.args.view_length) c.args.store.now room) in
-    put_mid_lem c.round-start-start.result (3 * c.args.view_length) c.args.store.now c.clear.new.work (replicate (3 * c.args.view_length) 0) zeros (length-replicate (3 * c.args.view_length) 0)
-    ∙ ap (λ (m : ℕ). put c.args.store.now m (replicate (3 * c.args.view_length) 0)) c.round-start-start.ensures
+    let room : c.round_start-start.result + 3 * c.args.view_length ≤ length c.args.store.now = omega (arith, c.round_start-start.ensures, c.requires.placed.room) in
+    let zeros : c.clear.new.work ≡ replicate (3 * c.args.view_length) 0 = c.clear.ensures ∙ ap (λ (m : ℕ). replicate m 0) (long c.round_start-start.result (3 * c.args.view_length) c.args.store.now room) in
+    put_mid_lem c.round_start-start.result (3 * c.args.view_length) c.args.store.now c.clear.new.work (replicate (3 * c.args.view_length) 0) zeros (length-replicate (3 * c.args.view_length) 0)
+    ∙ ap (λ (m : ℕ). put c.args.store.now m (replicate (3 * c.args.view_length) 0)) c.round_start-start.ensures

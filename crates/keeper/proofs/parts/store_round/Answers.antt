@@ -15,24 +15,24 @@ use Rattle.keeper.specs.Promise.{round_for}
 use Rattle.keeper.proofs.Tested.{ready_fits, ready_key, ready_tape}
 use Rattle.keeper.proofs.parts.store_round.Goals as goal
 
-pub split-tape-parts-requires : goal.split-tape-parts-requires
-split-tape-parts-requires g c =
+pub split_tape-parts-requires : goal.split_tape-parts-requires
+split_tape-parts-requires g c =
     record { short = lock_short g.K.ElementKind.kind c.args.lock c.requires.ready.stands; sized = (ready_fits g.K.ElementKind.kind g.S.Sealer.sealing c.args.lock c.args.view_length c.args.key.now c.args.tape.now (length c.args.work1.now) (length c.args.work2.now) (length c.args.work3.now) (length c.args.first.now) c.requires.ready).tape }
 
-pub write-round-requires : goal.write-round-requires
-write-round-requires g c =
+pub write_round-requires : goal.write_round-requires
+write_round-requires g c =
     let K = g.K.ElementKind.kind in
     let r = c.requires.ready in
     let f = ready_fits g.K.ElementKind.kind g.S.Sealer.sealing c.args.lock c.args.view_length c.args.key.now c.args.tape.now (length c.args.work1.now) (length c.args.work2.now) (length c.args.work3.now) (length c.args.first.now) c.requires.ready in
-    let t = c.split-tape-parts.result in
-    let lawful = ready_tape g.K.ElementKind.kind g.S.Sealer.sealing c.args.lock c.args.view_length c.args.key.now c.args.tape.now (length c.args.work1.now) (length c.args.work2.now) (length c.args.work3.now) (length c.args.first.now) c.requires.ready t c.split-tape-parts.ensures in
-    let room : c.round-start-start.result + 3 * c.args.view_length ≤ length c.args.store.now = omega (arith, c.round-start-start.ensures, c.requires.placed.room) in
+    let t = c.split_tape-parts.result in
+    let lawful = ready_tape g.K.ElementKind.kind g.S.Sealer.sealing c.args.lock c.args.view_length c.args.key.now c.args.tape.now (length c.args.work1.now) (length c.args.work2.now) (length c.args.work3.now) (length c.args.first.now) c.requires.ready t c.split_tape-parts.ensures in
+    let room : c.round_start-start.result + 3 * c.args.view_length ≤ length c.args.store.now = omega (arith, c.round_start-start.ensures, c.requires.placed.room) in
     record {
       accepted = record {
         stands = r.stands;
         key_sized = f.key;
         key_lawful = ready_key g.K.ElementKind.kind g.S.Sealer.sealing c.args.lock c.args.view_length c.args.key.now c.args.tape.now (length c.args.work1.now) (length c.args.work2.now) (length c.args.work3.now) (length c.args.first.now) c.requires.ready;
-        tape_sized = cut_sized K c.args.lock.inputs c.args.lock.products c.args.tape.now t c.split-tape-parts.ensures f.tape;
+        tape_sized = cut_sized K c.args.lock.inputs c.args.lock.products c.args.tape.now t c.split_tape-parts.ensures f.tape;
         share1_lawful = lawful.share1;
         share2_lawful = lawful.share2;
         mask1_lawful = lawful.mask1;
@@ -44,7 +44,7 @@ write-round-requires g c =
       shaped = record {
         whole = omega (arith, r.long, c.key_length.ensures, c.group_length.ensures);
         short = c.requires.placed.short;
-        long = long c.round-start-start.result (3 * c.args.view_length) c.args.store.now room;
+        long = long c.round_start-start.result (3 * c.args.view_length) c.args.store.now room;
       };
       within1 = f.within1;
       within2 = f.within2;
@@ -58,19 +58,19 @@ returns g c =
     let K = g.K.ElementKind.kind in
     let r = c.requires.ready in
     let f = ready_fits g.K.ElementKind.kind g.S.Sealer.sealing c.args.lock c.args.view_length c.args.key.now c.args.tape.now (length c.args.work1.now) (length c.args.work2.now) (length c.args.work3.now) (length c.args.first.now) c.requires.ready in
-    let t = c.split-tape-parts.result in
+    let t = c.split_tape-parts.result in
     let key = c.args.key.now in
     let xs = c.args.tape.now in
-    let sized = cut_sized K c.args.lock.inputs c.args.lock.products xs t c.split-tape-parts.ensures f.tape in
+    let sized = cut_sized K c.args.lock.inputs c.args.lock.products xs t c.split_tape-parts.ensures f.tape in
     let e = sym (lock_counts K c.args.lock r.stands) in
-    let v = view_is K g.met.K.ElementKind.laws c.args.lock key xs t c.split-tape-parts.ensures sized e in
-    let o = outs_are K g.met.K.ElementKind.laws c.args.lock key xs t c.split-tape-parts.ensures sized e in
-    let start = c.round-start-start.result in
+    let v = view_is K g.met.K.ElementKind.laws c.args.lock key xs t c.split_tape-parts.ensures sized e in
+    let o = outs_are K g.met.K.ElementKind.laws c.args.lock key xs t c.split_tape-parts.ensures sized e in
+    let start = c.round_start-start.result in
     let n = 3 * c.args.view_length in
-    let room : c.round-start-start.result + 3 * c.args.view_length ≤ length c.args.store.now = omega (arith, c.round-start-start.ensures, c.requires.placed.room) in
-    let is = c.write-round.ensures.views ∙ (λ x. v one x ++ (v two x ++ v three x)) in
-    let size = ap length (sym is) ∙ c.write-round.auto.views ∙ long start n c.args.store.now room in
+    let room : c.round_start-start.result + 3 * c.args.view_length ≤ length c.args.store.now = omega (arith, c.round_start-start.ensures, c.requires.placed.room) in
+    let is = c.write_round.ensures.views ∙ (λ x. v one x ++ (v two x ++ v three x)) in
+    let size = ap length (sym is) ∙ c.write_round.auto.views ∙ long start n c.args.store.now room in
     record {
-      store = put_mid_lem start n c.args.store.now c.write-round.new.views _ is size ∙ ap (λ (a : ℕ). put c.args.store.now a (round_for K (circuit_of K c.args.lock) key xs)) c.round-start-start.ensures;
-      first = c.write-round.ensures.first ∙ (λ x. first_bytes K (λ i. o i x) (λ i. g.S.Sealer.sealing.seal (v i x)));
+      store = put_mid_lem start n c.args.store.now c.write_round.new.views _ is size ∙ ap (λ (a : ℕ). put c.args.store.now a (round_for K (circuit_of K c.args.lock) key xs)) c.round_start-start.ensures;
+      first = c.write_round.ensures.first ∙ (λ x. first_bytes K (λ i. o i x) (λ i. g.S.Sealer.sealing.seal (v i x)));
     }

@@ -8,4 +8,4 @@ seam : (front last rest : List RoundState) → last ≡ front → take (length f
 seam front last rest e = ap (λ (l : List RoundState). take (length front) (l ++ rest)) e ∙ take-append_seam front rest
 
 pub returns : goal.returns
-returns c = seam c.args.front.now c.copy-from-slice.new.self _ c.copy-from-slice.ensures.after
+returns c = seam c.args.front.now c.copy_from_slice.new.self _ c.copy_from_slice.ensures.after

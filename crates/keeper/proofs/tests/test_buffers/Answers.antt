@@ -6,11 +6,11 @@ use Rattle.keeper.proofs.tests.test_buffers.Goals as goal
 
 pub returns : goal.returns
 returns g c =
-    let w = c.work-length-work.ensures in
+    let w = c.work_length-work.ensures in
     let n = c.args.given in
-    let p1 = ap (λ (x : ℕ). size_right (leb x n.work1) 3) (sym w) ∙ sym c.test-size.ensures ∙ c.in-ok-test-size.was in
-    let p2 = ap (λ (x : ℕ). size_right (leb x n.work2) 4) (sym w) ∙ sym c.test-size-2.ensures ∙ c.in-ok-test-size-2.was in
-    let p3 = ap (λ (x : ℕ). size_right (leb x n.work3) 5) (sym w) ∙ sym c.test-size-3.ensures ∙ c.in-ok-test-size-3.was in
-    c.test-size-4.ensures
-    ∙ ap (λ (x : ℕ). size_right (eqb c.args.given.first x) 6) (c.first_length.ensures ∙ ap (λ (d : ℕ). first_length g.K.ElementKind.kind c.args.lock.outputs d) c.seal-length.ensures)
+    let p1 = ap (λ (x : ℕ). size_right (leb x n.work1) 3) (sym w) ∙ sym c.test_size.ensures ∙ c.in_ok-test_size.was in
+    let p2 = ap (λ (x : ℕ). size_right (leb x n.work2) 4) (sym w) ∙ sym c.test_size-2.ensures ∙ c.in_ok-test_size-2.was in
+    let p3 = ap (λ (x : ℕ). size_right (leb x n.work3) 5) (sym w) ∙ sym c.test_size-3.ensures ∙ c.in_ok-test_size-3.was in
+    c.test_size-4.ensures
+    ∙ ap (λ (x : ℕ). size_right (eqb c.args.given.first x) 6) (c.first_length.ensures ∙ ap (λ (d : ℕ). first_length g.K.ElementKind.kind c.args.lock.outputs d) c.seal_length.ensures)
     ∙ three_passed _ _ _ _ p1 p2 p3

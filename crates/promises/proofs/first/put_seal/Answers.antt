@@ -7,8 +7,8 @@ use Rattle.promises.proofs.first.put_seal.Goals as goal
 pub returns : goal.returns
 returns g c =
     let s = g.S.Sealer.sealing in
-    let n = c.seal-length.result in
-    let room : c.args.at + c.seal-length.result ≤ length c.args.first.now = omega (arith, c.seal-length.ensures, c.requires.room) in
-    let size = long c.args.at c.seal-length.result c.args.first.now room in
-    let is = c.seal.ensures.left ∙ left_taken s c.args.view.now (between c.args.at (c.args.at + c.seal-length.result) c.args.first.now) c.requires.short (size ∙ c.seal-length.ensures) in
-    put_mid_lem c.args.at c.seal-length.result c.args.first.now c.seal.new.out (s.seal c.args.view.now) is (g.met.S.Sealer.sound.sized c.args.view.now ∙ sym c.seal-length.ensures)
+    let n = c.seal_length.result in
+    let room : c.args.at + c.seal_length.result ≤ length c.args.first.now = omega (arith, c.seal_length.ensures, c.requires.room) in
+    let size = long c.args.at c.seal_length.result c.args.first.now room in
+    let is = c.seal.ensures.left ∙ left_taken s c.args.view.now (between c.args.at (c.args.at + c.seal_length.result) c.args.first.now) c.requires.short (size ∙ c.seal_length.ensures) in
+    put_mid_lem c.args.at c.seal_length.result c.args.first.now c.seal.new.out (s.seal c.args.view.now) is (g.met.S.Sealer.sound.sized c.args.view.now ∙ sym c.seal_length.ensures)

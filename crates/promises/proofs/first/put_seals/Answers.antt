@@ -4,23 +4,23 @@ use Rattle.theory.specs.declared.Branch.TheVariants.{One as one, Two as two, Thr
 use Rattle.promises.proofs.Writes.{tail_writes, view_long}
 use Rattle.promises.proofs.first.put_seals.Goals as goal
 
-pub put-seal-requires-2 : goal.put-seal-requires-2
-put-seal-requires-2 g c =
+pub put_seal-requires-2 : goal.put_seal-requires-2
+put_seal-requires-2 g c =
     let l = view_long c.args.view_length (3 * c.args.view_length) c.part-2.result.now c.args.views.now c.args.view_length c.part-2.ensures (omega arith) c.requires.long in
-    record { short = omega (arith, l, c.requires.short.0); room = omega (arith, c.seal-length-size.ensures, c.put-seal.auto.first, c.requires.room) }
+    record { short = omega (arith, l, c.requires.short.0); room = omega (arith, c.seal_length-size.ensures, c.put_seal.auto.first, c.requires.room) }
 
-pub put-seal-requires-3 : goal.put-seal-requires-3
-put-seal-requires-3 g c =
+pub put_seal-requires-3 : goal.put_seal-requires-3
+put_seal-requires-3 g c =
     let l = view_long c.args.view_length (3 * c.args.view_length) c.part-3.result.now c.args.views.now (2 * c.args.view_length) c.part-3.ensures (omega arith) c.requires.long in
-    record { short = omega (arith, l, c.requires.short.0); room = omega (arith, c.seal-length-size.ensures, c.put-seal.auto.first, c.put-seal-2.auto.first, c.requires.room) }
+    record { short = omega (arith, l, c.requires.short.0); room = omega (arith, c.seal_length-size.ensures, c.put_seal.auto.first, c.put_seal-2.auto.first, c.requires.room) }
 
 pub returns : goal.returns
 returns g c =
     let s = g.S.Sealer.sealing in
     let L = c.args.view_length in
     let V = c.args.views.now in
-    let d = c.seal-length-size.result in
-    let sized : (m : List ℕ) → length (g.S.Sealer.sealing.seal m) ≡ c.seal-length-size.result = λ m. g.met.S.Sealer.sound.sized m ∙ sym c.seal-length-size.ensures in
+    let d = c.seal_length-size.result in
+    let sized : (m : List ℕ) → length (g.S.Sealer.sealing.seal m) ≡ c.seal_length-size.result = λ m. g.met.S.Sealer.sound.sized m ∙ sym c.seal_length-size.ensures in
     let x = s.seal c.part.result.now in
     let y = s.seal c.part-2.result.now in
     let z = s.seal c.part-3.result.now in
@@ -30,7 +30,7 @@ returns g c =
     let v1 : c.part.result.now ≡ view_part L V one = c.part.ensures ∙ ap (λ (n : ℕ). take L (drop n V)) e0 in
     let v2 : c.part-2.result.now ≡ view_part L V two = c.part-2.ensures ∙ ap (λ (n : ℕ). take L (drop n V)) e1 in
     let v3 : c.part-3.result.now ≡ view_part L V three = c.part-3.ensures ∙ ap (λ (n : ℕ). take L (drop n V)) e2 in
-    c.put-seal-3.ensures
-    ∙ tail_writes c.args.first.now x y z c.put-seal.new.first c.put-seal-2.new.first c.args.at (c.args.at + d) (c.args.at + 2 * d)
-    (ap (λ (n : ℕ). c.args.at + n) (sized c.part.result.now)) (omega (arith, sized c.part-2.result.now)) (omega (arith, sized c.part-3.result.now, c.requires.room, c.seal-length-size.ensures)) c.put-seal.ensures c.put-seal-2.ensures
+    c.put_seal-3.ensures
+    ∙ tail_writes c.args.first.now x y z c.put_seal.new.first c.put_seal-2.new.first c.args.at (c.args.at + d) (c.args.at + 2 * d)
+    (ap (λ (n : ℕ). c.args.at + n) (sized c.part.result.now)) (omega (arith, sized c.part-2.result.now)) (omega (arith, sized c.part-3.result.now, c.requires.room, c.seal_length-size.ensures)) c.put_seal.ensures c.put_seal-2.ensures
     ∙ (λ t. take c.args.at c.args.first.now ++ (s.seal (v1 t) ++ (s.seal (v2 t) ++ s.seal (v3 t))))

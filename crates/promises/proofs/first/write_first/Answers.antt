@@ -9,5 +9,5 @@ pub returns : goal.returns
 returns g c =
     let K = g.K.ElementKind.kind in
     first_is K (circuit_of K c.args.lock).outputs (wires_on K (c.args.lock.inputs + c.args.lock.gates) c.args.work1.now c.args.work2.now c.args.work3.now)
-    (λ i. g.S.Sealer.sealing.seal (view_part c.args.view_length c.args.views.now i)) (2 + 3 * c.group-length-size.result) c.put-shares.new.first c.put-seals.new.first
-    c.put-shares.ensures c.put-seals.ensures
+    (λ i. g.S.Sealer.sealing.seal (view_part c.args.view_length c.args.views.now i)) (2 + 3 * c.group_length-size.result) c.put_shares.new.first c.put_seals.new.first
+    c.put_shares.ensures c.put_seals.ensures

@@ -9,6 +9,6 @@ pub returns : goal.returns
 returns g c =
     let K = g.K.ElementKind.kind in
     let entry = to_end c.args.bytes.now c.args.at in
-    put_here K c.args.count c.args.at c.args.q (g.K.ElementKind.row c.args.x) c.args.bytes.now c.put-element.new.bytes c.requires.room
-    (c.put-element.ensures.put ∙ ap (λ (l : List ℕ). set (group K c.args.count l) c.args.q (g.K.ElementKind.row c.args.x)) entry)
-    (c.put-element.ensures.behind ∙ ap (drop (group_length K c.args.count)) entry)
+    put_here K c.args.count c.args.at c.args.q (g.K.ElementKind.row c.args.x) c.args.bytes.now c.put_element.new.bytes c.requires.room
+    (c.put_element.ensures.put ∙ ap (λ (l : List ℕ). set (group K c.args.count l) c.args.q (g.K.ElementKind.row c.args.x)) entry)
+    (c.put_element.ensures.behind ∙ ap (drop (group_length K c.args.count)) entry)

@@ -15,20 +15,20 @@ returns g c =
     let K = g.K.ElementKind.kind in
     let row = g.K.ElementKind.row in
     let gate = gate_of c.args.gate in
-    let x = row c.right-product-product1.result in
-    let y = row c.right-product-product2.result in
-    let z = row c.right-product-product3.result in
+    let x = row c.right_product-product1.result in
+    let y = row c.right_product-product2.result in
+    let z = row c.right_product-product3.result in
     let due : (i : Branch) → three_of x y z i ≡ due_at K (wires_on K c.args.own c.args.work1.now c.args.work2.now c.args.work3.now) (masks_on K c.args.shape.products c.args.masks) c.args.q (gate_of c.args.gate) i
     = three_due K gate (wires_on K c.args.own c.args.work1.now c.args.work2.now c.args.work3.now) (masks_on K c.args.shape.products c.args.masks) c.args.q
-    (row c.mask-for-mask1.result) (row c.mask-for-mask2.result) (row c.mask-for-mask3.result) x y z
-    c.mask-for-mask1.ensures c.mask-for-mask2.ensures c.mask-for-mask3.ensures c.right-product-product1.ensures c.right-product-product2.ensures c.right-product-product3.ensures in
+    (row c.mask_for-mask1.result) (row c.mask_for-mask2.result) (row c.mask_for-mask3.result) x y z
+    c.mask_for-mask1.ensures c.mask_for-mask2.ensures c.mask_for-mask3.ensures c.right_product-product1.ensures c.right_product-product2.ensures c.right_product-product3.ensures in
     record {
-      first = c.branch-gate.ensures ∙ ap (λ (p : List ℕ). wires_in K c.args.own c.args.work1.now ++ (local (ops_of K) one (wires_in K c.args.own c.args.work1.now) p gate ∷ [])) (due one);
-      second = c.branch-gate-2.ensures ∙ ap (λ (p : List ℕ). wires_in K c.args.own c.args.work2.now ++ (local (ops_of K) two (wires_in K c.args.own c.args.work2.now) p gate ∷ [])) (due two);
-      third = c.branch-gate-3.ensures ∙ ap (λ (p : List ℕ). wires_in K c.args.own c.args.work3.now ++ (local (ops_of K) three (wires_in K c.args.own c.args.work3.now) p gate ∷ [])) (due three);
-      kept = three_kept K c.args.shape.view_length c.args.shape.products_at c.args.shape.products c.args.q c.requires.shaped.whole x y z c.args.part.now c.put_product.new.part c.put-product-2.new.part c.put-product-3.new.part gate
-          c.put_product.ensures c.put-product-2.ensures c.put-product-3.ensures;
-      put = λ i. three_put K c.args.shape.view_length c.args.shape.products_at c.args.shape.products c.args.q c.requires.shaped.whole x y z c.args.part.now c.put_product.new.part c.put-product-2.new.part c.put-product-3.new.part gate
-          c.put_product.ensures c.put-product-2.ensures c.put-product-3.ensures i
+      first = c.branch_gate.ensures ∙ ap (λ (p : List ℕ). wires_in K c.args.own c.args.work1.now ++ (local (ops_of K) one (wires_in K c.args.own c.args.work1.now) p gate ∷ [])) (due one);
+      second = c.branch_gate-2.ensures ∙ ap (λ (p : List ℕ). wires_in K c.args.own c.args.work2.now ++ (local (ops_of K) two (wires_in K c.args.own c.args.work2.now) p gate ∷ [])) (due two);
+      third = c.branch_gate-3.ensures ∙ ap (λ (p : List ℕ). wires_in K c.args.own c.args.work3.now ++ (local (ops_of K) three (wires_in K c.args.own c.args.work3.now) p gate ∷ [])) (due three);
+      kept = three_kept K c.args.shape.view_length c.args.shape.products_at c.args.shape.products c.args.q c.requires.shaped.whole x y z c.args.part.now c.put_product.new.part c.put_product-2.new.part c.put_product-3.new.part gate
+          c.put_product.ensures c.put_product-2.ensures c.put_product-3.ensures;
+      put = λ i. three_put K c.args.shape.view_length c.args.shape.products_at c.args.shape.products c.args.q c.requires.shaped.whole x y z c.args.part.now c.put_product.new.part c.put_product-2.new.part c.put_product-3.new.part gate
+          c.put_product.ensures c.put_product-2.ensures c.put_product-3.ensures i
           ∙ ap (λ (p : List ℕ). put_product gate c.args.q p (products_in K c.args.shape.view_length c.args.shape.products_at c.args.shape.products c.args.part.now i)) (due i);
     }

@@ -14,15 +14,15 @@ loop-j-init g c =
     let stands : gates_place c.args.lock ≡ standing c.reader-reader.result = sym c.reader-reader.ensures in
     plain_start K c.args.lock.inputs c.args.lock.gates (standing c.reader-reader.result) c.args.work.now (subst (GatesStand K c.args.lock.gates c.args.lock.inputs) stands c.requires.stands.gates_stand) c.requires.lawful
 
-pub next-gate-gate-requires : goal.next-gate-gate-requires
-next-gate-gate-requires g c =
+pub next_gate-gate-requires : goal.next_gate-gate-requires
+next_gate-gate-requires g c =
     plain_there g.K.ElementKind.kind g.met.K.ElementKind.laws c.args.lock.inputs c.args.lock.gates c.loop-j.j (standing c.loop-j.reader) c.loop-j.work _ c.loop-j-test.true c.loop-j.invariant
 
-pub plain-gate-requires : goal.plain-gate-requires
-plain-gate-requires g c =
+pub plain_gate-requires : goal.plain_gate-requires
+plain_gate-requires g c =
     let r = room c.args.lock.inputs c.args.lock.gates c.loop-j.j g.K.ElementKind.kind.width (length c.args.work.now) c.loop-j-test.true c.requires.within in
     record {
-      fit = plain_for g.K.ElementKind.kind g.met.K.ElementKind.laws c.args.lock.inputs c.args.lock.gates c.loop-j.j (standing c.loop-j.reader) c.loop-j.work _ c.loop-j-test.true c.loop-j.invariant (gate_of c.next-gate-gate.result) c.next-gate-gate.ensures.gate;
+      fit = plain_for g.K.ElementKind.kind g.met.K.ElementKind.laws c.args.lock.inputs c.args.lock.gates c.loop-j.j (standing c.loop-j.reader) c.loop-j.work _ c.loop-j-test.true c.loop-j.invariant (gate_of c.next_gate-gate.result) c.next_gate-gate.ensures.gate;
       within = omega (arith, r, c.loop-j.auto.work);
       lawful = c.loop-j.invariant.lawful;
     }
@@ -30,7 +30,7 @@ plain-gate-requires g c =
 pub loop-j-preserved : goal.loop-j-preserved
 loop-j-preserved g c =
     plain_next g.K.ElementKind.kind g.met.K.ElementKind.laws c.args.lock.inputs c.args.lock.gates c.loop-j.j (standing c.loop-j.reader) c.loop-j.work _ c.loop-j-test.true c.loop-j.invariant
-    (gate_of c.next-gate-gate.result) c.next-gate-gate.ensures.gate c.plain-gate.new.work (standing c.next-gate-gate.new.reader) c.plain-gate.ensures c.next-gate-gate.ensures.stands
+    (gate_of c.next_gate-gate.result) c.next_gate-gate.ensures.gate c.plain_gate.new.work (standing c.next_gate-gate.new.reader) c.plain_gate.ensures c.next_gate-gate.ensures.stands
 
 pub returns : goal.returns
 returns g c =

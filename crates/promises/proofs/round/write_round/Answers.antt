@@ -8,16 +8,16 @@ use Rattle.theory.specs.Messages.{first_bytes}
 use Rattle.branches.specs.Walks.{circuit_of}
 use Rattle.promises.proofs.round.write_round.Goals as goal
 
-pub write-first-requires : goal.write-first-requires
-write-first-requires g c =
+pub write_first-requires : goal.write_first-requires
+write_first-requires g c =
     let K = g.K.ElementKind.kind in
     record {
       stands = c.requires.accepted.stands;
-      ready1 = record { within = subst (λ (n : ℕ). (c.args.lock.inputs + c.args.lock.gates) * g.K.ElementKind.kind.width ≤ n) (sym c.write-views.auto.work1) c.requires.within1; lawful = c.write-views.ensures.lawful one };
-      ready2 = record { within = subst (λ (n : ℕ). (c.args.lock.inputs + c.args.lock.gates) * g.K.ElementKind.kind.width ≤ n) (sym c.write-views.auto.work2) c.requires.within2; lawful = c.write-views.ensures.lawful two };
-      ready3 = record { within = subst (λ (n : ℕ). (c.args.lock.inputs + c.args.lock.gates) * g.K.ElementKind.kind.width ≤ n) (sym c.write-views.auto.work3) c.requires.within3; lawful = c.write-views.ensures.lawful three };
+      ready1 = record { within = subst (λ (n : ℕ). (c.args.lock.inputs + c.args.lock.gates) * g.K.ElementKind.kind.width ≤ n) (sym c.write_views.auto.work1) c.requires.within1; lawful = c.write_views.ensures.lawful one };
+      ready2 = record { within = subst (λ (n : ℕ). (c.args.lock.inputs + c.args.lock.gates) * g.K.ElementKind.kind.width ≤ n) (sym c.write_views.auto.work2) c.requires.within2; lawful = c.write_views.ensures.lawful two };
+      ready3 = record { within = subst (λ (n : ℕ). (c.args.lock.inputs + c.args.lock.gates) * g.K.ElementKind.kind.width ≤ n) (sym c.write_views.auto.work3) c.requires.within3; lawful = c.write_views.ensures.lawful three };
       short = (c.requires.short, c.requires.shaped.short);
-      long = c.write-views.auto.views ∙ c.requires.shaped.long;
+      long = c.write_views.auto.views ∙ c.requires.shaped.long;
       sized = c.requires.sized;
     }
 
@@ -27,6 +27,6 @@ returns g c =
     let us = (circuit_of K c.args.lock).outputs in
     let seal = g.S.Sealer.sealing.seal in
     record {
-      views = c.write-views.ensures.views;
-      first = c.write-first.ensures ∙ (λ x. first_bytes K (λ i. at_outputs (ops_of K) us (c.write-views.ensures.wires i x)) (λ i. seal (c.write-views.ensures.each i x)));
+      views = c.write_views.ensures.views;
+      first = c.write_first.ensures ∙ (λ x. first_bytes K (λ i. at_outputs (ops_of K) us (c.write_views.ensures.wires i x)) (λ i. seal (c.write_views.ensures.each i x)));
     }

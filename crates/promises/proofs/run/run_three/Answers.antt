@@ -31,19 +31,19 @@ loop-j-init g c =
     (subst (GatesStand K c.args.lock.gates c.args.lock.inputs) stands c.requires.stands.gates_stand) c.requires.lawful1 c.requires.lawful2 c.requires.lawful3
     (subst (λ (s : Standing). mus (gates_at K c.args.lock.gates s) ≡ c.args.shape.products) stands mus-are)
 
-pub next-gate-gate-requires : goal.next-gate-gate-requires
-next-gate-gate-requires g c =
+pub next_gate-gate-requires : goal.next_gate-gate-requires
+next_gate-gate-requires g c =
     next_there g.K.ElementKind.kind g.met.K.ElementKind.laws c.args.lock.inputs c.args.lock.gates c.loop-j.j (standing c.loop-j.reader) c.loop-j.work1 c.loop-j.work2 c.loop-j.work3 c.loop-j.part _ _ _ _ c.loop-j.q _ _ _ c.loop-j-test.true c.loop-j.invariant
 
-pub three-gate-requires : goal.three-gate-requires
-three-gate-requires g c =
+pub three_gate-requires : goal.three_gate-requires
+three_gate-requires g c =
     let K = g.K.ElementKind.kind in
     let inv = c.loop-j.invariant in
     let r1 = room c.args.lock.inputs c.args.lock.gates c.loop-j.j g.K.ElementKind.kind.width (length c.args.work1.now) c.loop-j-test.true c.requires.within1 in
     let r2 = room c.args.lock.inputs c.args.lock.gates c.loop-j.j g.K.ElementKind.kind.width (length c.args.work2.now) c.loop-j-test.true c.requires.within2 in
     let r3 = room c.args.lock.inputs c.args.lock.gates c.loop-j.j g.K.ElementKind.kind.width (length c.args.work3.now) c.loop-j-test.true c.requires.within3 in
     record {
-      fit = next_for K g.met.K.ElementKind.laws c.args.lock.inputs c.args.lock.gates c.loop-j.j (standing c.loop-j.reader) c.loop-j.work1 c.loop-j.work2 c.loop-j.work3 c.loop-j.part _ _ _ _ c.loop-j.q _ _ _ c.loop-j-test.true inv (gate_of c.next-gate-gate.result) c.next-gate-gate.ensures.gate;
+      fit = next_for K g.met.K.ElementKind.laws c.args.lock.inputs c.args.lock.gates c.loop-j.j (standing c.loop-j.reader) c.loop-j.work1 c.loop-j.work2 c.loop-j.work3 c.loop-j.part _ _ _ _ c.loop-j.q _ _ _ c.loop-j-test.true inv (gate_of c.next_gate-gate.result) c.next_gate-gate.ensures.gate;
       within1 = omega (arith, r1, c.loop-j.auto.work1);
       within2 = omega (arith, r2, c.loop-j.auto.work2);
       within3 = omega (arith, r3, c.loop-j.auto.work3);
@@ -52,23 +52,23 @@ three-gate-requires g c =
       lawful3 = inv.lawful three;
       masked = c.requires.masked;
       shaped = subst (Shaped K c.args.shape) (sym c.loop-j.auto.part) c.requires.shaped;
-      some = next_some K g.met.K.ElementKind.laws c.args.lock.inputs c.args.lock.gates c.loop-j.j (standing c.loop-j.reader) c.loop-j.work1 c.loop-j.work2 c.loop-j.work3 c.loop-j.part _ _ _ _ c.loop-j.q _ _ _ c.loop-j-test.true inv (gate_of c.next-gate-gate.result) c.next-gate-gate.ensures.gate;
+      some = next_some K g.met.K.ElementKind.laws c.args.lock.inputs c.args.lock.gates c.loop-j.j (standing c.loop-j.reader) c.loop-j.work1 c.loop-j.work2 c.loop-j.work3 c.loop-j.part _ _ _ _ c.loop-j.q _ _ _ c.loop-j-test.true inv (gate_of c.next_gate-gate.result) c.next_gate-gate.ensures.gate;
     }
 
-pub overflow-add-q : goal.overflow-add-q
-overflow-add-q g c =
-    let some : c.loop-j.q + has (gate_of c.next-gate-gate.result) ≤ c.args.shape.products = next_some g.K.ElementKind.kind g.met.K.ElementKind.laws c.args.lock.inputs c.args.lock.gates c.loop-j.j (standing c.loop-j.reader) c.loop-j.work1 c.loop-j.work2 c.loop-j.work3 c.loop-j.part _ _ _ _ c.loop-j.q _ _ _ c.loop-j-test.true c.loop-j.invariant (gate_of c.next-gate-gate.result) c.next-gate-gate.ensures.gate in
-    record { fits = omega (arith, some, c.products-of-q.ensures, few c.args.shape.products g.K.ElementKind.kind.width g.met.K.ElementKind.laws.some_width, c.requires.shaped.whole, c.requires.shaped.short) }
+pub overflow_add-q : goal.overflow_add-q
+overflow_add-q g c =
+    let some : c.loop-j.q + has (gate_of c.next_gate-gate.result) ≤ c.args.shape.products = next_some g.K.ElementKind.kind g.met.K.ElementKind.laws c.args.lock.inputs c.args.lock.gates c.loop-j.j (standing c.loop-j.reader) c.loop-j.work1 c.loop-j.work2 c.loop-j.work3 c.loop-j.part _ _ _ _ c.loop-j.q _ _ _ c.loop-j-test.true c.loop-j.invariant (gate_of c.next_gate-gate.result) c.next_gate-gate.ensures.gate in
+    record { fits = omega (arith, some, c.products_of-q.ensures, few c.args.shape.products g.K.ElementKind.kind.width g.met.K.ElementKind.laws.some_width, c.requires.shaped.whole, c.requires.shaped.short) }
 
 pub loop-j-preserved : goal.loop-j-preserved
 loop-j-preserved g c =
     let K = g.K.ElementKind.kind in
-    let told = c.three-gate.ensures in
+    let told = c.three_gate.ensures in
     trio_next K g.met.K.ElementKind.laws c.args.lock.inputs c.args.lock.gates c.loop-j.j (standing c.loop-j.reader) c.loop-j.work1 c.loop-j.work2 c.loop-j.work3 c.loop-j.part _ _ _ _ c.loop-j.q _ _ _ c.loop-j-test.true c.loop-j.invariant
-    (gate_of c.next-gate-gate.result) c.next-gate-gate.ensures.gate c.three-gate.new.work1 c.three-gate.new.work2 c.three-gate.new.work3 c.three-gate.new.part (standing c.next-gate-gate.new.reader) c.products-of-q.result
+    (gate_of c.next_gate-gate.result) c.next_gate-gate.ensures.gate c.three_gate.new.work1 c.three_gate.new.work2 c.three_gate.new.work3 c.three_gate.new.part (standing c.next_gate-gate.new.reader) c.products_of-q.result
     (masks_ok K c.args.shape.products c.args.masks c.requires.masked)
     (record { first = told.first; second = told.second; third = told.third; kept = told.kept; put = told.put })
-    c.next-gate-gate.ensures.stands c.products-of-q.ensures
+    c.next_gate-gate.ensures.stands c.products_of-q.ensures
 
 pub returns : goal.returns
 returns g c =

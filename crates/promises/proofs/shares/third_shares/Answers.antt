@@ -11,9 +11,9 @@ loop-i-preserved g c =
     let A = group K c.args.count c.args.key.now in
     let B = group K c.args.count c.args.share1.now in
     let C = group K c.args.count c.args.share2.now in
-    fill_next K c.args.count c.loop-i.out c.put-element.new.bytes c.loop-i.i (g.K.ElementKind.row c.third-share-share.result) _ _ _ c.loop-i-test.true c.put-element.ensures.put
+    fill_next K c.args.count c.loop-i.out c.put_element.new.bytes c.loop-i.i (g.K.ElementKind.row c.third_share-share.result) _ _ _ c.loop-i-test.true c.put_element.ensures.put
     (thirds_more K A B C c.loop-i.i (omega (arith, counted K c.args.count c.args.key.now)) (omega (arith, counted K c.args.count c.args.share1.now)) (omega (arith, counted K c.args.count c.args.share2.now))
-    ∙ ap (λ (r : List ℕ). r ∷ thirds_from K A B C (c.loop-i.i + 1)) (sym c.third-share-share.ensures))
+    ∙ ap (λ (r : List ℕ). r ∷ thirds_from K A B C (c.loop-i.i + 1)) (sym c.third_share-share.ensures))
     c.loop-i.invariant
 
 pub returns : goal.returns

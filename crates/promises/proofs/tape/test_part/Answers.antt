@@ -6,16 +6,16 @@ use Rattle.branches.proofs.GroupLemmas.{element_below}
 use Rattle.promises.proofs.Walks.{unlawful_below}
 use Rattle.promises.proofs.tape.test_part.Goals as goal
 
-pub element-at-requires : goal.element-at-requires
-element-at-requires g c =
+pub element_at-requires : goal.element_at-requires
+element_at-requires g c =
     let K = g.K.ElementKind.kind in
     let i = c.in-Some.i in
     let low = unlawful_below K (group K c.args.n c.args.bytes.now) c.in-Some.i (sym c.in-Some.ensures) in
     let below = element_below K c.args.n c.in-Some.i (omega (arith, low, counted K c.args.n c.args.bytes.now)) in
     omega (arith, below, c.requires.sized)
 
-pub overflow-add-at : goal.overflow-add-at
-overflow-add-at g c =
+pub overflow_add-at : goal.overflow_add-at
+overflow_add-at g c =
     let K = g.K.ElementKind.kind in
     let low = unlawful_below K (group K c.args.n c.args.bytes.now) c.in-Some.i (sym c.in-Some.ensures) in
     let below = element_below K c.args.n c.in-Some.i (omega (arith, low, counted K c.args.n c.args.bytes.now)) in

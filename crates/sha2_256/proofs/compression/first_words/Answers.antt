@@ -9,7 +9,7 @@ loop-t-init c = (refl, sym (schedule_none c.args.block.now))
 pub loop-t-preserved : goal.loop-t-preserved
 loop-t-preserved c =
     let h : c.loop-t.t < length c.loop-t.w = omega arith in
-    let a = take_more_set c.loop-t.w c.loop-t.t c.word-be.result h in
+    let a = take_more_set c.loop-t.w c.loop-t.t c.word_be.result h in
     let b = schedule_early c.loop-t.t c.args.block.now c.loop-t-test.true in
     (simp length-set c.loop-t.invariant.0, cc)
 

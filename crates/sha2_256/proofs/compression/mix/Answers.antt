@@ -11,7 +11,7 @@ pub loop-i-preserved : goal.loop-i-preserved
 loop-i-preserved c =
     let w = c.args.w.now in
     let i = c.loop-i.i in
-    let at = keyed_at c.add-constants-v.result w c.add-constants-v.ensures in
+    let at = keyed_at c.add_constants-v.result w c.add_constants-v.ensures in
     eight_rounds w c.args.s.now i _ _ _ _ _ _ _ _ _ c.loop-i.invariant
     (c.step.ensures (get_or k (8 * i) 0) (get_or w (8 * i) 0) (at (8 * i) (omega arith)))
     (c.step-in-loop-i.ensures (get_or k (8 * i + 1) 0) (get_or w (8 * i + 1) 0) (at (8 * i + 1) (omega arith)))

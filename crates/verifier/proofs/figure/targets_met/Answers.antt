@@ -8,16 +8,16 @@ use Rattle.verifier.specs.Shares.{bytes_on}
 use Rattle.verifier.proofs.FirstLemmas.{each, shares_open}
 use Rattle.verifier.proofs.figure.targets_met.Goals as goal
 
-pub missed-target-requires : goal.missed-target-requires
-missed-target-requires g c =
+pub missed_target-requires : goal.missed_target-requires
+missed_target-requires g c =
     let kind = g.K.ElementKind.kind in
     let l = circuit_of kind c.args.lock in
     let first = c.args.first.now in
-    let shares : Shares = record { one = c.shares-of.result; two = c.shares-of-2.result; three = c.shares-of-3.result } in
+    let shares : Shares = record { one = c.shares_of.result; two = c.shares_of-2.result; three = c.shares_of-3.result } in
     record {
       stands = c.requires.stands;
       «open» = shares_open kind l first c.args.lock.outputs (ap (λ (s : Summary). s.outputs) c.requires.stands.summed) shares
-          (each (λ i. bytes_on shares i ≡ drop (outs_at kind l i) first) c.shares-of.ensures.shares c.shares-of-2.ensures.shares c.shares-of-3.ensures.shares)
-          (each (λ i. group_length kind c.args.lock.outputs ≤ length (bytes_on shares i)) c.shares-of.ensures.room c.shares-of-2.ensures.room c.shares-of-3.ensures.room)
+          (each (λ i. bytes_on shares i ≡ drop (outs_at kind l i) first) c.shares_of.ensures.shares c.shares_of-2.ensures.shares c.shares_of-3.ensures.shares)
+          (each (λ i. group_length kind c.args.lock.outputs ≤ length (bytes_on shares i)) c.shares_of.ensures.room c.shares_of-2.ensures.room c.shares_of-3.ensures.room)
           c.requires.formed;
     }

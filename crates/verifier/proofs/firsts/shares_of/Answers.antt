@@ -12,9 +12,9 @@ pub returns : goal.returns
 returns g c =
     let kind = g.K.ElementKind.kind in
     let first = c.args.first.now in
-    let at = c.shares-at-start.result in
+    let at = c.shares_at-start.result in
     record {
-      shares = to_end first at ∙ ap (λ (n : ℕ). drop n first) c.shares-at-start.ensures.value;
+      shares = to_end first at ∙ ap (λ (n : ℕ). drop n first) c.shares_at-start.ensures.value;
       room = part_room at (group_length kind c.args.lock.outputs) first
-          (omega (arith, c.shares-at-start.ensures.value, c.requires.sized, behind_room (the_branch c.args.branch) (group_length g.K.ElementKind.kind c.args.lock.outputs), ap (λ (s : Summary). group_length g.K.ElementKind.kind s.outputs) c.requires.stands.summed, ap (λ (n : ℕ). behind (the_branch c.args.branch) * group_length g.K.ElementKind.kind n) (ap (λ (s : Summary). s.outputs) c.requires.stands.summed)));
+          (omega (arith, c.shares_at-start.ensures.value, c.requires.sized, behind_room (the_branch c.args.branch) (group_length g.K.ElementKind.kind c.args.lock.outputs), ap (λ (s : Summary). group_length g.K.ElementKind.kind s.outputs) c.requires.stands.summed, ap (λ (n : ℕ). behind (the_branch c.args.branch) * group_length g.K.ElementKind.kind n) (ap (λ (s : Summary). s.outputs) c.requires.stands.summed)));
     }

@@ -14,16 +14,16 @@ use Rattle.branches.proofs.Walked.{output_is_there, output_fits, walking_next}
 use Rattle.verifier.proofs.ShareLemmas.{said_here}
 use Rattle.verifier.proofs.outputs.wrong_share.Goals as goal
 
-pub next-output-output-requires : goal.next-output-output-requires
-next-output-output-requires g c =
+pub next_output-output-requires : goal.next_output-output-requires
+next_output-output-requires g c =
     let lock = c.args.lock in
     output_is_there g.K.ElementKind.kind (lock.inputs + lock.gates) lock.outputs c.loop-j.j (standing c.loop-j.reader) _ c.loop-j-test.true c.loop-j.invariant.0
 
-pub gives-share-requires : goal.gives-share-requires
-gives-share-requires g c =
+pub gives_share-requires : goal.gives_share-requires
+gives_share-requires g c =
     let lock = c.args.lock in
     record {
-      wire = (output_fits g.K.ElementKind.kind (lock.inputs + lock.gates) lock.outputs c.loop-j.j (standing c.loop-j.reader) _ c.loop-j-test.true c.loop-j.invariant.0 (output_of c.next-output-output.result) c.next-output-output.ensures.output).0;
+      wire = (output_fits g.K.ElementKind.kind (lock.inputs + lock.gates) lock.outputs c.loop-j.j (standing c.loop-j.reader) _ c.loop-j-test.true c.loop-j.invariant.0 (output_of c.next_output-output.result) c.next_output-output.ensures.output).0;
       within = c.requires.within;
       lawful = c.requires.lawful;
       room = c.requires.room;
@@ -31,8 +31,8 @@ gives-share-requires g c =
       below = c.loop-j-test.true;
     }
 
-pub returns-then-not-gives-share : goal.returns-then-not-gives-share
-returns-then-not-gives-share g c =
+pub returns-then-not-gives_share : goal.returns-then-not-gives_share
+returns-then-not-gives_share g c =
     let kind = g.K.ElementKind.kind in
     let lock = c.args.lock in
     let m = c.args.lock.outputs in
@@ -44,10 +44,10 @@ returns-then-not-gives-share g c =
     let size : length all ≡ m = ap (λ (s : Summary). s.outputs) c.requires.stands.summed in
     let xlong : c.loop-j.j < length (at_outputs (ops_of kind) all ws) = omega (arith, length-map all f, size, c.loop-j-test.true) in
     let ylong : c.loop-j.j < length ys = omega (arith, counted kind m c.args.shares.now, c.loop-j-test.true) in
-    let u = output_of c.next-output-output.result in
-    unlike_found (at_outputs (ops_of kind) all ws) ys j (f u) _ kind.zero c.gives-share.result _ xlong ylong
-    (said_here kind (lock.inputs + lock.gates) m j (standing c.loop-j.reader) all c.loop-j-test.true c.loop-j.invariant.0 size f u c.next-output-output.ensures.output kind.zero)
-    refl c.gives-share.ensures c.loop-j.invariant.1 c.if-not-gives-share.true
+    let u = output_of c.next_output-output.result in
+    unlike_found (at_outputs (ops_of kind) all ws) ys j (f u) _ kind.zero c.gives_share.result _ xlong ylong
+    (said_here kind (lock.inputs + lock.gates) m j (standing c.loop-j.reader) all c.loop-j-test.true c.loop-j.invariant.0 size f u c.next_output-output.ensures.output kind.zero)
+    refl c.gives_share.ensures c.loop-j.invariant.1 c.if-not-gives_share.true
 
 pub loop-j-preserved : goal.loop-j-preserved
 loop-j-preserved g c =
@@ -62,11 +62,11 @@ loop-j-preserved g c =
     let size : length all ≡ m = ap (λ (s : Summary). s.outputs) c.requires.stands.summed in
     let xlong : c.loop-j.j < length (at_outputs (ops_of kind) all ws) = omega (arith, length-map all f, size, c.loop-j-test.true) in
     let ylong : c.loop-j.j < length ys = omega (arith, counted kind m c.args.shares.now, c.loop-j-test.true) in
-    let u = output_of c.next-output-output.result in (
-      walking_next kind (lock.inputs + lock.gates) m j (standing c.loop-j.reader) all c.loop-j-test.true c.loop-j.invariant.0 u c.next-output-output.ensures.output (standing c.next-output-output.new.reader) c.next-output-output.ensures.stands,
-      like_here (at_outputs (ops_of kind) all ws) ys j (f u) _ kind.zero c.gives-share.result _ xlong ylong
-          (said_here kind (lock.inputs + lock.gates) m j (standing c.loop-j.reader) all c.loop-j-test.true c.loop-j.invariant.0 size f u c.next-output-output.ensures.output kind.zero)
-          refl c.gives-share.ensures c.loop-j.invariant.1 c.if-not-gives-share.false,
+    let u = output_of c.next_output-output.result in (
+      walking_next kind (lock.inputs + lock.gates) m j (standing c.loop-j.reader) all c.loop-j-test.true c.loop-j.invariant.0 u c.next_output-output.ensures.output (standing c.next_output-output.new.reader) c.next_output-output.ensures.stands,
+      like_here (at_outputs (ops_of kind) all ws) ys j (f u) _ kind.zero c.gives_share.result _ xlong ylong
+          (said_here kind (lock.inputs + lock.gates) m j (standing c.loop-j.reader) all c.loop-j-test.true c.loop-j.invariant.0 size f u c.next_output-output.ensures.output kind.zero)
+          refl c.gives_share.ensures c.loop-j.invariant.1 c.if-not-gives_share.false,
     )
 
 pub returns : goal.returns

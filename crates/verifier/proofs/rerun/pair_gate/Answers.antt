@@ -17,17 +17,17 @@ returns g c =
     let p = c.args.pair in
     let gate = gate_of c.args.gate in
     let wi = wires_in kind c.args.own c.args.work.now in
-    let wn = wires_in kind c.args.own c.args.next-work.now in
+    let wn = wires_in kind c.args.own c.args.next_work.now in
     let ps = group kind p.count p.view.products.now in
     let qs = group kind p.count p.next_view.products.now in
     let ms = group kind p.count p.view.masks.now in
     let ns = group kind p.count p.next_view.masks.now in
     let q = c.args.q in
     record {
-      right = c.product-right-right.ensures
+      right = c.product_right-right.ensures
           ∙ ap (λ (x : List ℕ). same_row x (right (ops_of kind) gate wi (taken kind gate (first_mask kind p q) ∷ []) wn (taken kind gate (second_mask kind p q) ∷ []))) c.taken-product.ensures
           ∙ right_here kind gate wi wn ps ms ns _ q;
-      grown = grown_here kind (first_of p) wi ps _ q _ gate c.taken-product.ensures c.branch-gate.ensures;
-      nextgrown = grown_here kind (second_of p) wn qs _ q _ gate c.taken-next-product.ensures
-          (c.branch-gate-2.ensures ∙ ap (λ (i : Branch). wn ++ (local (ops_of kind) i wn (g.K.ElementKind.row c.taken-next-product.result) gate ∷ [])) c.after.ensures);
+      grown = grown_here kind (first_of p) wi ps _ q _ gate c.taken-product.ensures c.branch_gate.ensures;
+      nextgrown = grown_here kind (second_of p) wn qs _ q _ gate c.taken-next_product.ensures
+          (c.branch_gate-2.ensures ∙ ap (λ (i : Branch). wn ++ (local (ops_of kind) i wn (g.K.ElementKind.row c.taken-next_product.result) gate ∷ [])) c.after.ensures);
     }

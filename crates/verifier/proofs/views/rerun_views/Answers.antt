@@ -16,8 +16,8 @@ returns g c =
     let e = the_branch c.args.branch in
     let A = (view_of kind l c.args.picked.now).1 in
     let B = (view_of kind l c.args.following.now).1 in
-    let a = view_is kind lock.inputs lock.products c.view-parts-view.result c.wires-from-group.new.work A c.view-parts-view.ensures.parts c.wires-from-group.ensures in
-    let b = view_is kind lock.inputs lock.products c.view-parts-next-view.result c.wires-from-group-2.new.work B c.view-parts-next-view.ensures.parts c.wires-from-group-2.ensures in
+    let a = view_is kind lock.inputs lock.products c.view_parts-view.result c.wires_from_group.new.work A c.view_parts-view.ensures.parts c.wires_from_group.ensures in
+    let b = view_is kind lock.inputs lock.products c.view_parts-next_view.result c.wires_from_group-2.new.work B c.view_parts-next_view.ensures.parts c.wires_from_group-2.ensures in
     record {
       wrong = c.rerun.ensures.wrong ∙ (λ t. wrong_product kind e (next e) lock.inputs l.gates (a t) (b t));
       first = c.rerun.ensures.first ∙ ap (rerun (ops_of kind) e l.gates) a;

@@ -24,26 +24,26 @@ record Refused (K : Kind) (bs : List ℕ) (r : Result Lock Fault) : Type 0 where
 refused : (K : Kind) (bs : List ℕ) (r : Result Lock Fault) (f : Fault) → r ≡ Err f → lock_of K bs ≡ Err f → Refused K bs r
 refused K bs r f e d = record { outcome = ap (map_ok summary_of) e ∙ sym (ap (map_ok summary) d); walk = walk_refused K bs (map_ok record_bytes r) (lock_of K bs) f (ap (map_ok record_bytes) e) d }
 
-pub returns-in-err-counts : goal.returns-in-err-counts
-returns-in-err-counts g c =
+pub returns-in_err-counts : goal.returns-in_err-counts
+returns-in_err-counts g c =
     let k = g.K.ElementKind.kind in
     let bs = c.args.bytes.now in
-    let p = err_from_is_err_and c.from-residual.result c.from-residual.ensures.1 in
-    let f = c.in-err-counts.field-0.0 in
-    let s = refused k bs c.from-residual.result f (p.1 ∙ ap Err p.2) (header_refused k bs f (sym c.header.ensures ∙ c.in-err-counts.was)) in
-    record { outcome = s.outcome; exact = reads k g.met.K.ElementKind.laws bs (in_bytes bs c.type-inv.bytes); walk = s.walk }
+    let p = err_from_is_err_and c.from_residual.result c.from_residual.ensures.1 in
+    let f = c.in_err-counts.field-0.0 in
+    let s = refused k bs c.from_residual.result f (p.1 ∙ ap Err p.2) (header_refused k bs f (sym c.header.ensures ∙ c.in_err-counts.was)) in
+    record { outcome = s.outcome; exact = reads k g.met.K.ElementKind.laws bs (in_bytes bs c.type_inv.bytes); walk = s.walk }
 
-pub returns-in-err-products : goal.returns-in-err-products
-returns-in-err-products g c =
+pub returns-in_err-products : goal.returns-in_err-products
+returns-in_err-products g c =
     let k = g.K.ElementKind.kind in
     let bs = c.args.bytes.now in
-    let n = c.in-ok-counts.counts in
-    let p = err_from_is_err_and c.from-residual-in-err-products.result c.from-residual-in-err-products.ensures.1 in
-    let f = c.in-err-products.field-0.0 in
-    let d = records_refused k bs n f (sym c.header.ensures ∙ c.in-ok-counts.was)
-    (ap (λ (xs : List ℕ). map_ok (λ (l : Circuit (List ℕ)). mus l.gates) (records_of k n 15 xs)) (sym (to_end bs 15)) ∙ sym c.products.ensures ∙ c.in-err-products.was) in
-    let s = refused k bs c.from-residual-in-err-products.result f (p.1 ∙ ap Err p.2) d in
-    record { outcome = s.outcome; exact = reads k g.met.K.ElementKind.laws bs (in_bytes bs c.type-inv.bytes); walk = s.walk }
+    let n = c.in_ok-counts.counts in
+    let p = err_from_is_err_and c.from_residual-in_err-products.result c.from_residual-in_err-products.ensures.1 in
+    let f = c.in_err-products.field-0.0 in
+    let d = records_refused k bs n f (sym c.header.ensures ∙ c.in_ok-counts.was)
+    (ap (λ (xs : List ℕ). map_ok (λ (l : Circuit (List ℕ)). mus l.gates) (records_of k n 15 xs)) (sym (to_end bs 15)) ∙ sym c.products.ensures ∙ c.in_err-products.was) in
+    let s = refused k bs c.from_residual-in_err-products.result f (p.1 ∙ ap Err p.2) d in
+    record { outcome = s.outcome; exact = reads k g.met.K.ElementKind.laws bs (in_bytes bs c.type_inv.bytes); walk = s.walk }
 
 -- both parts passed
 all_read : (K : Kind) (bs : List ℕ) (n : Counts) (q : ℕ) (h : Result Counts Fault) (r : Result ℕ Fault) → h ≡ header_of K bs → h ≡ Ok n
@@ -51,24 +51,24 @@ all_read : (K : Kind) (bs : List ℕ) (n : Counts) (q : ℕ) (h : Result Counts 
 all_read K bs n q h r he hn re rq =
     accepted K bs n q (sym he ∙ hn) (ap (λ (xs : List ℕ). map_ok (λ (l : Circuit (List ℕ)). mus l.gates) (records_of K n 15 xs)) (sym (to_end bs 15)) ∙ sym re ∙ rq)
 
-pub overflow-cast-result-4 : goal.overflow-cast-result-4
-overflow-cast-result-4 g c =
+pub overflow_cast-result-4 : goal.overflow_cast-result-4
+overflow_cast-result-4 g c =
     let k = g.K.ElementKind.kind in
     let bs = c.args.bytes.now in
-    let n = c.in-ok-counts.counts in
-    let a = all_read k bs n c.in-ok-products.products c.header.result c.products.result c.header.ensures c.in-ok-counts.was c.products.ensures c.in-ok-products.was in
-    let few : c.in-ok-counts.counts.gates ≤ 200000 = (header_stands k bs n (sym c.header.ensures ∙ c.in-ok-counts.was)).few_gates in
-    let fewer : c.in-ok-products.products ≤ c.in-ok-counts.counts.gates = a.few in
+    let n = c.in_ok-counts.counts in
+    let a = all_read k bs n c.in_ok-products.products c.header.result c.products.result c.header.ensures c.in_ok-counts.was c.products.ensures c.in_ok-products.was in
+    let few : c.in_ok-counts.counts.gates ≤ 200000 = (header_stands k bs n (sym c.header.ensures ∙ c.in_ok-counts.was)).few_gates in
+    let fewer : c.in_ok-products.products ≤ c.in_ok-counts.counts.gates = a.few in
     record { fits = omega (arith, few, fewer) }
 
 pub returns : goal.returns
 returns g c =
     let k = g.K.ElementKind.kind in
     let bs = c.args.bytes.now in
-    let n = c.in-ok-counts.counts in
-    let a = all_read k bs n c.in-ok-products.products c.header.result c.products.result c.header.ensures c.in-ok-counts.was c.products.ensures c.in-ok-products.was in
+    let n = c.in_ok-counts.counts in
+    let a = all_read k bs n c.in_ok-products.products c.header.result c.products.result c.header.ensures c.in_ok-counts.was c.products.ensures c.in_ok-products.was in
     record {
       outcome = ap Ok a.sums ∙ sym (ap (map_ok summary) a.read);
-      exact = reads k g.met.K.ElementKind.laws bs (in_bytes bs c.type-inv.bytes);
+      exact = reads k g.met.K.ElementKind.laws bs (in_bytes bs c.type_inv.bytes);
       walk = walk_accepted k bs (between 15 (length c.args.bytes.now) c.args.bytes.now) (lock_of k bs) a.circuit a.read (to_end bs 15) a.walks;
     }

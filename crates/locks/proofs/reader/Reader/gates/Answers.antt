@@ -6,21 +6,21 @@ use Rattle.locks.specs.Model.{standing, reached}
 use Rattle.locks.proofs.Loops.{gates_next, gates_refused, gates_end}
 use Rattle.locks.proofs.reader.Reader.gates.Goals as goal
 
-pub returns-in-err-products : goal.returns-in-err-products
-returns-in-err-products g c =
-    let p = err_from_is_err_and c.from-residual.result c.from-residual.ensures.1 in
+pub returns-in_err-products : goal.returns-in_err-products
+returns-in_err-products g c =
+    let p = err_from_is_err_and c.from_residual.result c.from_residual.ensures.1 in
     let s = standing c.loop-j.self in
-    let e : gate_tested g.K.ElementKind.kind c.args.inputs (c.args.inputs + c.loop-j.j) c.loop-j.products c.loop-j.self.at c.loop-j.self.rest.now ≡ Err c.in-err-products.field-0.0 =
-    sym c.next-gate.ensures.outcome ∙ c.in-err-products.was in
-    ap (λ (r : Result ℕ Fault). reached r (standing c.next-gate.new.self)) (p.1 ∙ ap Err p.2)
-    ∙ gates_refused g.K.ElementKind.kind c.args.inputs c.args.count c.loop-j.j c.loop-j.products s c.loop-j-test.true c.in-err-products.field-0.0 e
+    let e : gate_tested g.K.ElementKind.kind c.args.inputs (c.args.inputs + c.loop-j.j) c.loop-j.products c.loop-j.self.at c.loop-j.self.rest.now ≡ Err c.in_err-products.field-0.0 =
+    sym c.next_gate.ensures.outcome ∙ c.in_err-products.was in
+    ap (λ (r : Result ℕ Fault). reached r (standing c.next_gate.new.self)) (p.1 ∙ ap Err p.2)
+    ∙ gates_refused g.K.ElementKind.kind c.args.inputs c.args.count c.loop-j.j c.loop-j.products s c.loop-j-test.true c.in_err-products.field-0.0 e
     ∙ c.loop-j.invariant.0
 
 pub loop-j-preserved : goal.loop-j-preserved
 loop-j-preserved g c =
     let s = standing c.loop-j.self in
-    let n = gates_next g.K.ElementKind.kind c.args.inputs c.args.count c.loop-j.j c.loop-j.products s c.loop-j-test.true c.in-ok-products.products (standing c.next-gate.new.self)
-    (sym c.next-gate.ensures.outcome ∙ c.in-ok-products.was) c.next-gate.ensures.stands in
+    let n = gates_next g.K.ElementKind.kind c.args.inputs c.args.count c.loop-j.j c.loop-j.products s c.loop-j-test.true c.in_ok-products.products (standing c.next_gate.new.self)
+    (sym c.next_gate.ensures.outcome ∙ c.in_ok-products.was) c.next_gate.ensures.stands in
     (n.0 ∙ c.loop-j.invariant.0, omega (arith, n.1, c.loop-j.invariant.1))
 
 pub returns : goal.returns

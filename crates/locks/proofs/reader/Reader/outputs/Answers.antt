@@ -6,22 +6,22 @@ use Rattle.locks.specs.Model.{standing, reached}
 use Rattle.locks.proofs.Loops.{outputs_next, outputs_refused, outputs_end}
 use Rattle.locks.proofs.reader.Reader.outputs.Goals as goal
 
-pub returns-in-err-next-output : goal.returns-in-err-next-output
-returns-in-err-next-output g c =
-    let p = err_from_is_err_and c.from-residual.result c.from-residual.ensures.1 in
-    let e : output_tested g.K.ElementKind.kind c.args.wires c.loop-j.self.at c.loop-j.self.rest.now ≡ Err c.in-err-next-output.field-0.0 =
-    sym c.next-output.ensures.outcome ∙ c.in-err-next-output.was in
-    ap (λ (r : Result (Unit {0}) Fault). reached r (standing c.next-output.new.self)) (p.1 ∙ ap Err p.2)
-    ∙ outputs_refused g.K.ElementKind.kind c.args.wires c.args.count c.loop-j.-j (standing c.loop-j.self) c.loop-j-test.true c.in-err-next-output.field-0.0 e
+pub returns-in_err-next_output : goal.returns-in_err-next_output
+returns-in_err-next_output g c =
+    let p = err_from_is_err_and c.from_residual.result c.from_residual.ensures.1 in
+    let e : output_tested g.K.ElementKind.kind c.args.wires c.loop-j.self.at c.loop-j.self.rest.now ≡ Err c.in_err-next_output.field-0.0 =
+    sym c.next_output.ensures.outcome ∙ c.in_err-next_output.was in
+    ap (λ (r : Result (Unit {0}) Fault). reached r (standing c.next_output.new.self)) (p.1 ∙ ap Err p.2)
+    ∙ outputs_refused g.K.ElementKind.kind c.args.wires c.args.count c.loop-j._j (standing c.loop-j.self) c.loop-j-test.true c.in_err-next_output.field-0.0 e
     ∙ c.loop-j.invariant
 
 pub loop-j-preserved : goal.loop-j-preserved
 loop-j-preserved g c =
-    outputs_next g.K.ElementKind.kind c.args.wires c.args.count c.loop-j.-j (standing c.loop-j.self) c.loop-j-test.true (standing c.next-output.new.self) tt
-    (sym c.next-output.ensures.outcome ∙ c.in-ok-next-output.was) c.next-output.ensures.stands
+    outputs_next g.K.ElementKind.kind c.args.wires c.args.count c.loop-j._j (standing c.loop-j.self) c.loop-j-test.true (standing c.next_output.new.self) tt
+    (sym c.next_output.ensures.outcome ∙ c.in_ok-next_output.was) c.next_output.ensures.stands
     ∙ c.loop-j.invariant
 
 pub returns : goal.returns
 returns g c =
-    outputs_end g.K.ElementKind.kind c.args.wires c.args.count c.loop-j.-j (standing c.loop-j.self) (omega arith)
+    outputs_end g.K.ElementKind.kind c.args.wires c.args.count c.loop-j._j (standing c.loop-j.self) (omega arith)
     ∙ c.loop-j.invariant

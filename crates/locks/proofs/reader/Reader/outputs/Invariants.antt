@@ -7,5 +7,5 @@ use Rattle.locks.proofs.reader.Reader.outputs.Given as goal
 abbrev pub invariant-loop-j : goal.invariant-loop-j
 invariant-loop-j g l =
     let kind = g.K.ElementKind.kind in
-    map_ok all_read (outputs_from kind (l.count - l.-j) l.wires l.self.at l.self.rest.now)
+    map_ok all_read (outputs_from kind (l.count - l._j) l.wires l.self.at l.self.rest.now)
     ≡ map_ok all_read (outputs_from kind l.count l.wires l.initial.self.at l.initial.self.rest.now)

@@ -7,4 +7,4 @@ use Rattle.locks.proofs.reader.fields.gate_in.Goals as goal
 pub returns : goal.returns
 returns g c =
     let two : 2 ≤ length c.args.bytes.now = search rules in
-    gate_here g.K.ElementKind.kind c.args.at c.args.bytes.now two _ (map_ok gate_of c.gate_body.result) c.read-mark.ensures c.gate_body.ensures
+    gate_here g.K.ElementKind.kind c.args.at c.args.bytes.now two _ (map_ok gate_of c.gate_body.result) c.read_mark.ensures c.gate_body.ensures

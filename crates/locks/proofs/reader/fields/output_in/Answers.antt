@@ -7,4 +7,4 @@ use Rattle.locks.proofs.reader.fields.output_in.Goals as goal
 pub returns : goal.returns
 returns g c =
     let two : 2 ≤ length c.args.bytes.now = search rules in
-    output_here g.K.ElementKind.kind c.args.at c.args.bytes.now two _ (map_ok output_of c.output_body.result) c.is-mark.ensures c.output_body.ensures
+    output_here g.K.ElementKind.kind c.args.at c.args.bytes.now two _ (map_ok output_of c.output_body.result) c.is_mark.ensures c.output_body.ensures
