@@ -16,7 +16,7 @@ use Rattle.theory.proofs.Asks as asks
 use Rattle.theory.proofs.Asks.{told, outcome, picks}
 use Rattle.theory.proofs.Soundly.{same_pick}
 use Rattle.theory.proofs.Completely.{completes_by_history, own, answer_is}
-use Rattle.theory.proofs.Hidden.{hidden_by, tied}
+use Rattle.theory.proofs.HidingHolds.{hidden_by, tied}
 use Rattle.theory.proofs.Onces.{made_later, once}
 
 noted_told : (s : Shown) (g : Given) (r : ℕ) (o : Option Given) → noted (told s) g r o ≡ asks.noted s g r o

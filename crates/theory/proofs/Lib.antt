@@ -27,7 +27,7 @@ pub mod Asked
 pub mod Tolds
 pub mod Completely
 pub mod Outsides
-pub mod Hidden
+pub mod HidingHolds
 pub mod Onces
 pub mod Hidings
 pub mod Examples
