@@ -4,7 +4,7 @@
 import glob
 import re
 
-MEMBERS = {"kind": ("ElementKind", None), "row": ("ElementKind", None), "sealing": ("Sealer", None)}
+MEMBERS = {"kind": ("ElementKind", None), "row": ("ElementKind", "ElementKind.row"), "sealing": ("Sealer", None)}
 FN = re.compile(r"\bfn \w+\s*<([^()]*?)>\s*\(")
 
 
@@ -21,9 +21,9 @@ def turn(t):
         if not first:
             continue
         parameters, clauses = head[: first.start()], head[first.start() :]
-        for name, (trait, _) in MEMBERS.items():
+        for name, (trait, path) in MEMBERS.items():
             if trait in bounds and not re.search(rf"\b{name}\s*:", parameters) and not re.search(rf"(?<![\w.]){name}\s*\.\s", clauses):
-                clauses = re.sub(rf"(?<![\w.'-]){name}(?![\w'-])(?! \{{)", f"{bounds[trait]}.{name}", clauses)
+                clauses = re.sub(rf"(?<![\w.'-]){name}(?![\w'-])(?! \{{)", f"{bounds[trait]}.{path or name}", clauses)
         out += [t[at : m.end()], parameters, clauses]
         at = body.start()
     return "".join(out) + t[at:]

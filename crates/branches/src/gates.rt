@@ -28,7 +28,7 @@ pub fn products_of(gate: GateRecord<'_>) -> usize
 
 // A branch's share of the product a × b: a × b + a' × b + a × b' + r − r', where the primed ones are the next branch's.
 fn product_share<K: ElementKind>(a: K, b: K, next_a: K, next_b: K, mask: K, next_mask: K) -> K
-    ensures { K.row result ≡ share (ops_of K.kind) (K.row a) (K.row b) (K.row next_a) (K.row next_b) (K.row mask) (K.row next_mask) }
+    ensures { K.ElementKind.row result ≡ share (ops_of K.kind) (K.ElementKind.row a) (K.ElementKind.row b) (K.ElementKind.row next_a) (K.ElementKind.row next_b) (K.ElementKind.row mask) (K.ElementKind.row next_mask) }
 {
     a.product(b)
         .sum(next_a.product(b))
@@ -40,7 +40,7 @@ fn product_share<K: ElementKind>(a: K, b: K, next_a: K, next_b: K, mask: K, next
 // Only branch 1 adds a constant.
 fn plus_constant<K: ElementKind>(branch: Branch, x: K, constant: &[u8]) -> K
     requires { Lawful K.kind constant.now }
-    ensures { K.row result ≡ plus_constant (ops_of K.kind) (the_branch branch) (K.row x) constant.now }
+    ensures { K.ElementKind.row result ≡ plus_constant (ops_of K.kind) (the_branch branch) (K.ElementKind.row x) constant.now }
 {
     match branch {
         Branch::One => x.sum(lawful_row(constant)),
@@ -53,7 +53,7 @@ fn plain_value<K: ElementKind>(work: &[u8], own: usize, gate: GateRecord<'_>) ->
     requires fit { GateFor K.kind own (gate_of gate) }
     requires within { own * K.kind.width ≤ length work.now }
     requires lawful { All (Lawful K.kind) (wires_in K.kind own work.now) }
-    ensures { K.row result ≡ value (ops_of K.kind) (wires_in K.kind own work.now) (gate_of gate.entry) }
+    ensures { K.ElementKind.row result ≡ value (ops_of K.kind) (wires_in K.kind own work.now) (gate_of gate.entry) }
 {
     match gate {
         GateRecord::AddConstant { wire: a, constant } => wire::<K>(work, own, a).sum(lawful_row(
@@ -94,7 +94,7 @@ pub fn right_product<K: ElementKind>(
     requires nextwithin { own * K.kind.width ≤ length next_work.now }
     requires lawful { All (Lawful K.kind) (wires_in K.kind own work.now) }
     requires nextlawful { All (Lawful K.kind) (wires_in K.kind own next_work.now) }
-    ensures { K.row result ≡ right (ops_of K.kind) (gate_of gate.entry) (wires_in K.kind own work.now) (K.row mask ∷ []) (wires_in K.kind own next_work.now) (K.row next_mask ∷ []) }
+    ensures { K.ElementKind.row result ≡ right (ops_of K.kind) (gate_of gate.entry) (wires_in K.kind own work.now) (K.ElementKind.row mask ∷ []) (wires_in K.kind own next_work.now) (K.ElementKind.row next_mask ∷ []) }
 {
     let GateRecord::Multiply { left, right } = gate else {
         return K::zero();
@@ -120,7 +120,7 @@ fn branch_value<K: ElementKind>(
     requires fit { GateFor K.kind own (gate_of gate) }
     requires within { own * K.kind.width ≤ length work.now }
     requires lawful { All (Lawful K.kind) (wires_in K.kind own work.now) }
-    ensures { K.row result ≡ local (ops_of K.kind) (the_branch branch) (wires_in K.kind own work.now) (K.row product) (gate_of gate.entry) }
+    ensures { K.ElementKind.row result ≡ local (ops_of K.kind) (the_branch branch) (wires_in K.kind own work.now) (K.ElementKind.row product) (gate_of gate.entry) }
 {
     match gate {
         GateRecord::AddConstant { wire: a, constant } => plus_constant(
@@ -147,7 +147,7 @@ pub fn branch_gate<K: ElementKind>(
     requires fit { GateFor K.kind own (gate_of gate) }
     requires within { suc own * K.kind.width ≤ length work.old }
     requires lawful { All (Lawful K.kind) (wires_in K.kind own work.old) }
-    ensures { wires_in K.kind (suc own) work.new ≡ wires_in K.kind own work.old ++ (local (ops_of K.kind) (the_branch branch) (wires_in K.kind own work.old) (K.row product) (gate_of gate.entry) ∷ []) }
+    ensures { wires_in K.kind (suc own) work.new ≡ wires_in K.kind own work.old ++ (local (ops_of K.kind) (the_branch branch) (wires_in K.kind own work.old) (K.ElementKind.row product) (gate_of gate.entry) ∷ []) }
 {
     let x: K = branch_value(branch, work, own, gate, product);
     add_wire(work, own, x);

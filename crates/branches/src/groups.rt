@@ -35,7 +35,7 @@ pub fn element<K: ElementKind>(bytes: &[u8], n: usize, i: usize) -> K
     requires below { i < n }
     requires within { group_length K.kind n ≤ length bytes.now }
     requires lawful { All (Lawful K.kind) (group K.kind n bytes.now) }
-    ensures { K.row result ≡ read (ops_of K.kind) (group K.kind n bytes.now) i }
+    ensures { K.ElementKind.row result ≡ read (ops_of K.kind) (group K.kind n bytes.now) i }
 {
     row_of(bytes, element_at::<K>(i))
 }
@@ -44,7 +44,7 @@ pub fn element<K: ElementKind>(bytes: &[u8], n: usize, i: usize) -> K
 pub fn put_element<K: ElementKind>(bytes: &mut [u8], n: usize, i: usize, x: K)
     requires below { i < n }
     requires within { group_length K.kind n ≤ length bytes.old }
-    ensures put { group K.kind n bytes.new ≡ slice_set (group K.kind n bytes.old) i (K.row x) }
+    ensures put { group K.kind n bytes.new ≡ slice_set (group K.kind n bytes.old) i (K.ElementKind.row x) }
     ensures behind { drop (group_length K.kind n) bytes.new ≡ drop (group_length K.kind n) bytes.old }
 {
     write_row(bytes, element_at::<K>(i), x);

@@ -14,7 +14,7 @@ pub fn wire<K: ElementKind>(work: &[u8], own: usize, a: usize) -> K
     requires below { a < own }
     requires within { own * K.kind.width ≤ length work.now }
     requires lawful { All (Lawful K.kind) (wires_in K.kind own work.now) }
-    ensures { K.row result ≡ read (ops_of K.kind) (wires_in K.kind own work.now) a }
+    ensures { K.ElementKind.row result ≡ read (ops_of K.kind) (wires_in K.kind own work.now) a }
 {
     row_of(work, a * K::row_length())
 }
@@ -22,7 +22,7 @@ pub fn wire<K: ElementKind>(work: &[u8], own: usize, a: usize) -> K
 // Writes wire `own`, behind those below it.
 pub(crate) fn add_wire<K: ElementKind>(work: &mut [u8], own: usize, x: K)
     requires { suc own * K.kind.width ≤ length work.old }
-    ensures { wires_in K.kind (suc own) work.new ≡ wires_in K.kind own work.old ++ (K.row x ∷ []) }
+    ensures { wires_in K.kind (suc own) work.new ≡ wires_in K.kind own work.old ++ (K.ElementKind.row x ∷ []) }
 {
     write_row(work, own * K::row_length(), x);
 }

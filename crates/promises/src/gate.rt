@@ -29,7 +29,7 @@ fn mask_for<K: ElementKind>(gate: GateRecord<'_>, masks: &[u8], count: usize, q:
     requires some { q + has (gate_of gate) ≤ count }
     requires within { group_length K.kind count ≤ length masks.now }
     requires lawful { All (Lawful K.kind) (group K.kind count masks.now) }
-    ensures { K.row result ≡ taken K.kind (gate_of gate.entry) (read (ops_of K.kind) (group K.kind count masks.now) q) }
+    ensures { K.ElementKind.row result ≡ taken K.kind (gate_of gate.entry) (read (ops_of K.kind) (group K.kind count masks.now) q) }
 {
     match gate {
         GateRecord::Multiply { .. } => element(masks, count, q),
@@ -41,7 +41,7 @@ fn mask_for<K: ElementKind>(gate: GateRecord<'_>, masks: &[u8], count: usize, q:
 fn put_at<K: ElementKind>(bytes: &mut [u8], at: usize, count: usize, q: usize, x: K)
     requires room { at + group_length K.kind count ≤ length bytes.old }
     requires below { q < count }
-    ensures { Put K.kind count at q (K.row x) bytes.old bytes.new }
+    ensures { Put K.kind count at q (K.ElementKind.row x) bytes.old bytes.new }
 {
     put_element(&mut bytes[at..], count, q, x);
 }
@@ -57,7 +57,7 @@ fn put_product<K: ElementKind>(
 )
     requires shaped { Shaped K.kind shape (length part.old) }
     requires some { q + has (gate_of gate) ≤ shape.products }
-    ensures { Puts K.kind shape.products (shape.view_length * behind (the_branch branch) + shape.products_at) q (gate_of gate.entry) (K.row x) part.old part.new }
+    ensures { Puts K.kind shape.products (shape.view_length * behind (the_branch branch) + shape.products_at) q (gate_of gate.entry) (K.ElementKind.row x) part.old part.new }
 {
     if let GateRecord::Multiply { .. } = gate {
         put_at(

@@ -23,7 +23,7 @@ fn third_share<K: ElementKind>(
     requires lawful { All (Lawful K.kind) (group K.kind count key.now) }
     requires lawful1 { All (Lawful K.kind) (group K.kind count share1.now) }
     requires lawful2 { All (Lawful K.kind) (group K.kind count share2.now) }
-    ensures { K.row result ≡ K.kind.add (K.kind.add (read (ops_of K.kind) (group K.kind count key.now) i) (K.kind.neg (read (ops_of K.kind) (group K.kind count share1.now) i))) (K.kind.neg (read (ops_of K.kind) (group K.kind count share2.now) i)) }
+    ensures { K.ElementKind.row result ≡ K.kind.add (K.kind.add (read (ops_of K.kind) (group K.kind count key.now) i) (K.kind.neg (read (ops_of K.kind) (group K.kind count share1.now) i))) (K.kind.neg (read (ops_of K.kind) (group K.kind count share2.now) i)) }
 {
     let whole: K = element(key, count, i);
     let first: K = element(share1, count, i);

@@ -37,7 +37,7 @@ fn taken<K: ElementKind>(gate: GateRecord<'_>, bytes: &[u8], count: usize, q: us
     requires room { group_length K.kind count ≤ length bytes.now }
     requires lawful { All (Lawful K.kind) (group K.kind count bytes.now) }
     requires some { q + has (gate_of gate) ≤ count }
-    ensures { K.row result ≡ taken K.kind (gate_of gate.entry) (read (ops_of K.kind) (group K.kind count bytes.now) q) }
+    ensures { K.ElementKind.row result ≡ taken K.kind (gate_of gate.entry) (read (ops_of K.kind) (group K.kind count bytes.now) q) }
 {
     match gate {
         GateRecord::Multiply { .. } => element(bytes, count, q),
@@ -73,7 +73,7 @@ fn product_right<K: ElementKind>(
     requires nextwithin { own * K.kind.width ≤ length next_work.now }
     requires lawful { All (Lawful K.kind) (wires_in K.kind own work.now) }
     requires nextlawful { All (Lawful K.kind) (wires_in K.kind own next_work.now) }
-    ensures { result ≡ same_row (K.row product) (right (ops_of K.kind) (gate_of gate.entry) (wires_in K.kind own work.now) (taken K.kind (gate_of gate.entry) (first_mask K.kind pair.entry q) ∷ []) (wires_in K.kind own next_work.now) (taken K.kind (gate_of gate.entry) (second_mask K.kind pair.entry q) ∷ [])) }
+    ensures { result ≡ same_row (K.ElementKind.row product) (right (ops_of K.kind) (gate_of gate.entry) (wires_in K.kind own work.now) (taken K.kind (gate_of gate.entry) (first_mask K.kind pair.entry q) ∷ []) (wires_in K.kind own next_work.now) (taken K.kind (gate_of gate.entry) (second_mask K.kind pair.entry q) ∷ [])) }
 {
     let mask: K = taken(gate, pair.view.masks, pair.count, q);
     let next_mask: K = taken(gate, pair.next_view.masks, pair.count, q);
