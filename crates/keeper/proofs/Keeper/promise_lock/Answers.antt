@@ -25,7 +25,12 @@ pub invariant_of-self : goal.invariant_of-self
 invariant_of-self g c =
     let h = sym c.test_promise.ensures ∙ c.in_ok-round.was in
     let w = round_within c.args.self.now g.K.ElementKind.kind g.S.Sealer.sealing c.args.lock c.args.key.now c.args.tape.now (length c.args.work1.now) (length c.args.work2.now) (length c.args.work3.now) (length c.args.first.now) c.in_ok-round.round c.requires.stands h in
-    (w, (c.args.self.now.few, (c.args.self.now.short, (subst (λ (n : ℕ). c.args.self.now.capacity * (3 * c.args.self.now.view_length) ≤ n) (sym c.store_round.auto.store) c.args.self.now.room, tt))))
+    record {
+      within = w;
+      few = c.args.self.now.few;
+      short = c.args.self.now.short;
+      room = subst (λ (n : ℕ). c.args.self.now.capacity * (3 * c.args.self.now.view_length) ≤ n) (sym c.store_round.auto.store) c.args.self.now.room;
+    }
 
 pub returns : goal.returns
 returns g c =
