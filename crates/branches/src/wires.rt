@@ -20,7 +20,7 @@ pub fn wire<K: ElementKind>(work: &[u8], own: usize, a: usize) -> K
 }
 
 // Writes wire `own`, behind those below it.
-pub(crate) fn add_wire<K: ElementKind>(work: &mut [u8], own: usize, x: K)
+pub fn add_wire<K: ElementKind>(work: &mut [u8], own: usize, x: K)
     requires { suc own * K.kind.width ≤ length work.old }
     ensures { wires_in K.kind (suc own) work.new ≡ wires_in K.kind own work.old ++ (K.ElementKind.row x ∷ []) }
 {

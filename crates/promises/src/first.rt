@@ -96,7 +96,7 @@ fn put_seals<S: Sealer>(sealer: &S, views: &[u8], view_length: usize, first: &mu
 }
 
 // The whole first message, from the three branches' work spaces and the round's views.
-pub(crate) fn write_first<K: ElementKind, S: Sealer>(
+pub fn write_first<K: ElementKind, S: Sealer>(
     sealer: &S,
     lock: Lock<'_>,
     work1: &[u8],

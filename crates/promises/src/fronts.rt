@@ -42,7 +42,7 @@ fn fill_third<K: ElementKind>(front: &mut [u8], tape: Tape<'_>, key: &[u8], coun
 }
 
 // The fronts of a round's three views.
-pub(crate) fn write_fronts<K: ElementKind>(
+pub fn write_fronts<K: ElementKind>(
     tape: Tape<'_>,
     key: &[u8],
     count: usize,

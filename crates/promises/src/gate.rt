@@ -38,7 +38,7 @@ fn mask_for<K: ElementKind>(gate: GateRecord<'_>, masks: &[u8], count: usize, q:
 }
 
 // Writes element q of the group of `count` that begins at `at`.
-fn put_at<K: ElementKind>(bytes: &mut [u8], at: usize, count: usize, q: usize, x: K)
+pub fn put_at<K: ElementKind>(bytes: &mut [u8], at: usize, count: usize, q: usize, x: K)
     requires room { at + group_length K.kind count ≤ length bytes.old }
     requires below { q < count }
     ensures { Put K.kind count at q (K.ElementKind.row x) bytes.old bytes.new }
@@ -71,7 +71,7 @@ fn put_product<K: ElementKind>(
 }
 
 // One gate in the three branches: their next wires, and their products in the views.
-pub(crate) fn three_gate<K: ElementKind>(
+pub fn three_gate<K: ElementKind>(
     gate: GateRecord<'_>,
     own: usize,
     q: usize,

@@ -16,7 +16,7 @@ use kinds::kind::ElementKind;
 use locks::lock::Lock;
 
 // Writes them over the whole of `out`.
-pub(crate) fn write_outputs<K: ElementKind>(lock: Lock<'_>, work: &[u8], out: &mut [u8])
+pub fn write_outputs<K: ElementKind>(lock: Lock<'_>, work: &[u8], out: &mut [u8])
     requires stands { Stands K.kind lock }
     requires within { (lock.inputs + lock.gates) * K.kind.width ≤ length work.now }
     requires lawful { All (Lawful K.kind) (wires_in K.kind (lock.inputs + lock.gates) work.now) }

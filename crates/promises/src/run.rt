@@ -20,7 +20,7 @@ use locks::lock::Lock;
 
 // Runs a lock's gates in the three branches, whose shares are the first wires of their work spaces; the products go
 // into the views' places.
-pub(crate) fn run_three<K: ElementKind>(
+pub fn run_three<K: ElementKind>(
     lock: Lock<'_>,
     masks: Masks<'_>,
     shape: Shape,

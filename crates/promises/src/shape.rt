@@ -23,7 +23,7 @@ pub struct Masks<'a> {
 }
 
 // How many branches stand before one.
-pub(crate) fn before(branch: Branch) -> usize
+pub fn before(branch: Branch) -> usize
     ensures { result ≡ behind (the_branch branch) }
 {
     match branch {

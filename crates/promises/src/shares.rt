@@ -32,7 +32,7 @@ fn third_share<K: ElementKind>(
 }
 
 // Writes them over the whole of `out`.
-pub(crate) fn third_shares<K: ElementKind>(
+pub fn third_shares<K: ElementKind>(
     key: &[u8],
     share1: &[u8],
     share2: &[u8],

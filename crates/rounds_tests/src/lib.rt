@@ -2,6 +2,9 @@
 #![tactic(auto)]
 
 #[cfg(test)]
+mod cases;
+
+#[cfg(test)]
 mod tests {
     use extractor::extract::extract;
     use faults::{Fault, Reason};
@@ -10,17 +13,58 @@ mod tests {
     use kinds::kind::ElementKind;
     use kinds::residue::Residue;
     use kinds::word::Word;
-    use samples::built::built;
-    use samples::worked::{BITS, KEY, RESIDUES, WORDS, bit_tape, tape};
     use seals::Sealer;
     use sha2_256::Sha256;
     use sha3::Sha3_256;
     use std::alloc::{AllocError, Global};
-    use std::process::Abort;
     use std::test::Fail;
     use theory::Extracted;
-    use toy_seals::{Short, Wide};
     use verifier::verify::verify;
+
+    // Two inputs; wire 2 is their product, wire 3 adds 5 and must be 17.
+    const WORDS: [u8; 45] =
+        *b"LK\x02\0\0\0\x02\0\0\0\x02\0\0\0\x01MU\0\0\0\0\0\0\0\x01AC\0\0\0\x02\0\0\0\x05OU\0\0\0\x03\0\0\0\x11";
+
+    // The same over residues.
+    const RESIDUES: [u8; 45] =
+        *b"LK\x03\0\0\0\x02\0\0\0\x02\0\0\0\x01MU\0\0\0\0\0\0\0\x01AC\0\0\0\x02\0\0\0\x05OU\0\0\0\x03\0\0\0\x11";
+
+    // Two bits whose product must be 1.
+    const BITS: [u8; 32] =
+        *b"LK\x01\0\0\0\x02\0\0\0\x01\0\0\0\x01MU\0\0\0\0\0\0\0\x01OU\0\0\0\x02\x01";
+
+    const KEY: [u8; 8] = [0, 0, 0, 3, 0, 0, 0, 4];
+
+    // Blinds, shares (10, 20) and (1, 2), masks 100, 7, 50.
+    fn tape(heap: Global, blinds: u8) -> Result<Vec<u8>, AllocError> {
+        let mut bytes = Vec::new(heap);
+        bytes.extend_from_slice(&[blinds; 96])?;
+        for number in [10u32, 20, 1, 2, 100, 7, 50] {
+            bytes.extend_from_slice(&number.to_be_bytes())?;
+        }
+        Ok(bytes)
+    }
+
+    // A promise of the word lock.
+    fn promise(
+        keeper: &mut Keeper<'_>,
+        key: &[u8],
+        tape: &[u8],
+        first: &mut [u8],
+    ) -> Result<usize, Fault> {
+        let mut work1 = [7u8; 16];
+        let mut work2 = [7u8; 16];
+        let mut work3 = [7u8; 16];
+        keeper.promise::<Word, Sha256>(
+            &Sha256, &WORDS, key, tape, &mut work1, &mut work2, &mut work3, first,
+        )
+    }
+
+    fn accepts(first: &[u8], pick: u8, answer: &[u8]) -> Result<(), Fault> {
+        let mut work1 = [7u8; 16];
+        let mut work2 = [7u8; 16];
+        verify::<Word, Sha256>(&Sha256, &WORDS, first, pick, answer, &mut work1, &mut work2)
+    }
 
     // One round on a keeper of its own, answered at a pick and verified; the answer comes back in its buffer.
     fn round<K: ElementKind, S: Sealer>(
@@ -33,25 +77,17 @@ mod tests {
         first: &mut [u8],
         answer: &mut [u8],
     ) -> Result<bool, AllocError> {
+        let mut store = vec![in heap; 1u8; 1000]?;
+        let mut work1 = [7u8; 64];
+        let mut work2 = [7u8; 64];
+        let mut work3 = [7u8; 64];
         let view = (answer.len() / 2).saturating_sub(1);
-        let mut store = vec![in heap; 1u8; 2 * answer.len()]?;
-        let mut work1 = vec![in heap; 7u8; answer.len()]?;
-        let mut work2 = vec![in heap; 7u8; answer.len()]?;
-        let mut work3 = vec![in heap; 7u8; answer.len()]?;
         let mut keeper = Keeper::new(view, store.as_mut_slice());
         let promised = keeper.promise::<K, S>(
-            sealer,
-            lock,
-            key,
-            tape,
-            work1.as_mut_slice(),
-            work2.as_mut_slice(),
-            work3.as_mut_slice(),
-            first,
+            sealer, lock, key, tape, &mut work1, &mut work2, &mut work3, first,
         );
         let answered = keeper.answer(1, pick, answer);
-        let (one, two) = (work1.as_mut_slice(), work2.as_mut_slice());
-        let verified = verify::<K, S>(sealer, lock, first, pick, answer, one, two);
+        let verified = verify::<K, S>(sealer, lock, first, pick, answer, &mut work1, &mut work2);
         Ok(promised == Ok(1) && answered == Ok(()) && verified == Ok(()))
     }
 
@@ -83,8 +119,8 @@ mod tests {
                 three.as_mut_slice(),
             )?;
         let mut found = vec![in heap; 0u8; key.len()]?;
-        let mut work1 = vec![in heap; 7u8; answer_length]?;
-        let mut work2 = vec![in heap; 7u8; answer_length]?;
+        let mut work1 = [7u8; 64];
+        let mut work2 = [7u8; 64];
         let extracted = extract::<K, S>(
             sealer,
             lock,
@@ -92,8 +128,8 @@ mod tests {
             one.as_slice(),
             two.as_slice(),
             three.as_slice(),
-            work1.as_mut_slice(),
-            work2.as_mut_slice(),
+            &mut work1,
+            &mut work2,
             found.as_mut_slice(),
         );
         Ok(accepted && extracted == Ok(Extracted::Key) && found.as_slice() == key)
@@ -104,7 +140,9 @@ mod tests {
         let heap = rt.alloc();
         let numbers = tape(heap, 9)?;
         let numbers = numbers.as_slice();
-        let bits = bit_tape(heap, 9)?;
+        let mut bits = Vec::new(heap);
+        bits.extend_from_slice(&[9; 96])?;
+        bits.extend_from_slice(&[1, 0, 0, 1, 1, 0, 1])?;
         let bits = bits.as_slice();
         assert!(rt; plays::<Word, Sha256>(heap, &Sha256, &WORDS, &KEY, numbers, 110, 99)?);
         assert!(rt; plays::<Word, Sha3_256>(heap, &Sha3_256, &WORDS, &KEY, numbers, 110, 99)?);
@@ -117,127 +155,186 @@ mod tests {
         Ok(())
     }
 
-    // Seals of 1 and of 64 bytes.
+    // Three rounds: one dropped, two answered at other picks; nothing twice.
     #[test]
-    fn short_and_long_seals(rt: HostRuntime) -> Result<(), Fail> {
-        let heap = rt.alloc();
-        let numbers = tape(heap, 9)?;
-        let numbers = numbers.as_slice();
-        let bits = bit_tape(heap, 9)?;
-        let bits = bits.as_slice();
-        assert!(rt; plays::<Word, Short>(heap, &Short, &WORDS, &KEY, numbers, 17, 99)?);
-        assert!(rt; plays::<Residue, Wide>(heap, &Wide, &RESIDUES, &KEY, numbers, 206, 99)?);
-        assert!(rt; plays::<Bit, Short>(heap, &Short, &BITS, &[1, 1], bits, 8, 75)?);
-        assert!(rt; plays::<Bit, Wide>(heap, &Wide, &BITS, &[1, 1], bits, 197, 75)?);
+    fn a_history(rt: HostRuntime) -> Result<(), Fail> {
+        let tape = tape(rt.alloc(), 5)?;
+        let mut store = vec![in rt.alloc(); 3u8; 440]?;
+        let mut one = vec![in rt.alloc(); 0u8; 110]?;
+        let mut three = vec![in rt.alloc(); 0u8; 110]?;
+        let mut answer = vec![in rt.alloc(); 0u8; 99]?;
+        let mut keeper = Keeper::new(48, store.as_mut_slice());
+        assert_eq!(rt;
+            promise(&mut keeper, &KEY, tape.as_slice(), one.as_mut_slice()),
+            Ok(1)
+        );
+        assert_eq!(rt;
+            promise(&mut keeper, &KEY, tape.as_slice(), three.as_mut_slice()),
+            Ok(2)
+        );
+        assert_eq!(rt;
+            promise(&mut keeper, &KEY, tape.as_slice(), three.as_mut_slice()),
+            Ok(3)
+        );
+        assert_eq!(rt; keeper.drop_round(2), Ok(()));
+        assert_eq!(rt; keeper.answer(3, 2, answer.as_mut_slice()), Ok(()));
+        assert_eq!(rt; accepts(three.as_slice(), 2, answer.as_slice()), Ok(()));
+        assert_eq!(rt; keeper.answer(1, 3, answer.as_mut_slice()), Ok(()));
+        assert_eq!(rt; accepts(one.as_slice(), 3, answer.as_slice()), Ok(()));
+        assert_eq!(rt;
+            keeper.answer(3, 2, answer.as_mut_slice()),
+            Err(Fault::at(Reason::SpentRound, 3))
+        );
         Ok(())
     }
 
-    // The shortest view that a lock has, 33 bytes, and the longest, 65,535.
     #[test]
-    fn short_and_long_views(rt: HostRuntime) -> Result<(), Fail> {
-        let heap = rt.alloc();
-        for (products, tape, answer) in [(0, 98, 69), (32_751, 98_351, 131_073)] {
-            let lock = built(
-                heap,
-                1,
-                [1, products, 1],
-                b"MU\0\0\0\0\0\0\0\0",
-                b"OU\0\0\0\0\x01",
-            )?;
-            let tape = vec![in heap; 1u8; tape]?;
-            let (lock, tape) = (lock.as_slice(), tape.as_slice());
-            assert!(rt; plays::<Bit, Sha256>(heap, &Sha256, lock, &[1], tape, 101, answer)?);
+    fn rounds_refused(rt: HostRuntime) -> Result<(), Fail> {
+        let tape = tape(rt.alloc(), 5)?;
+        let mut store = vec![in rt.alloc(); 3u8; 144]?;
+        let mut first = vec![in rt.alloc(); 0u8; 110]?;
+        let mut answer = vec![in rt.alloc(); 0u8; 98]?;
+        let mut keeper = Keeper::new(48, store.as_mut_slice());
+        assert_eq!(rt;
+            keeper.answer(1, 9, answer.as_mut_slice()),
+            Err(Fault::at(Reason::UnknownRound, 1))
+        );
+        assert_eq!(rt;
+            promise(&mut keeper, &KEY, tape.as_slice(), first.as_mut_slice()),
+            Ok(1)
+        );
+        assert_eq!(rt;
+            keeper.drop_round(0),
+            Err(Fault::at(Reason::UnknownRound, 0))
+        );
+        assert_eq!(rt;
+            keeper.answer(1, 4, answer.as_mut_slice()),
+            Err(Fault::at(Reason::WrongPick, 4))
+        );
+        assert_eq!(rt;
+            keeper.answer(1, 3, answer.as_mut_slice()),
+            Err(Fault::at(Reason::WrongSize, 1))
+        );
+        assert_eq!(rt; keeper.drop_round(1), Ok(()));
+        assert_eq!(rt;
+            keeper.answer(1, 3, answer.as_mut_slice()),
+            Err(Fault::at(Reason::SpentRound, 1))
+        );
+        assert_eq!(rt; keeper.drop_round(1), Err(Fault::at(Reason::SpentRound, 1)));
+        Ok(())
+    }
+
+    // The worked example to the byte: products 333, -75, -246 and output shares 338, -75, -246.
+    #[test]
+    fn views_and_shares(rt: HostRuntime) -> Result<(), Fail> {
+        let tape = tape(rt.alloc(), 5)?;
+        let mut store = [0u8; 144];
+        let mut first = [0u8; 110];
+        {
+            let mut keeper = Keeper::new(48, &mut store);
+            assert_eq!(rt;
+                promise(&mut keeper, &KEY, tape.as_slice(), &mut first),
+                Ok(1)
+            );
         }
+        let mut views = Vec::new(rt.alloc());
+        for numbers in [
+            [10u32, 20, 100, 333],
+            [1, 2, 7, 0u32.wrapping_sub(75)],
+            [
+                0u32.wrapping_sub(8),
+                0u32.wrapping_sub(18),
+                50,
+                0u32.wrapping_sub(246),
+            ],
+        ] {
+            views.extend_from_slice(&[5; 32])?;
+            for number in numbers {
+                views.extend_from_slice(&number.to_be_bytes())?;
+            }
+        }
+        assert_eq!(rt; &store[0..144], views.as_slice());
+        let mut shares = Vec::new(rt.alloc());
+        shares.extend_from_slice(b"FM")?;
+        for number in [338u32, 0u32.wrapping_sub(75), 0u32.wrapping_sub(246)] {
+            shares.extend_from_slice(&number.to_be_bytes())?;
+        }
+        assert_eq!(rt; &first[0..14], shares.as_slice());
         Ok(())
     }
 
-    // A promise of the word lock with blinds of its own; it must get this number.
-    fn promise(
-        rt: &impl Abort,
-        heap: Global,
-        keeper: &mut Keeper<'_>,
-        blinds: u8,
-        number: usize,
-    ) -> Result<Vec<u8>, Fail> {
-        let tape = tape(heap, blinds)?;
-        let mut first = vec![in heap; 0u8; 110]?;
+    #[test]
+    fn promises_refused(rt: HostRuntime) -> Result<(), Fail> {
+        let tape = tape(rt.alloc(), 5)?;
+        let tape = tape.as_slice();
+        let mut store = [0u8; 144];
+        let mut first = [0u8; 110];
+        let mut keeper = Keeper::new(48, &mut store);
+        assert_eq!(rt;
+            promise(&mut keeper, &KEY[0..7], tape, &mut first),
+            Err(Fault::at(Reason::WrongSize, 1))
+        );
+        assert_eq!(rt;
+            promise(&mut keeper, &KEY, &[0; 123], &mut first),
+            Err(Fault::at(Reason::WrongSize, 2))
+        );
+        assert_eq!(rt;
+            promise(&mut keeper, &KEY, tape, &mut [0; 111]),
+            Err(Fault::at(Reason::WrongSize, 6))
+        );
+        assert_eq!(rt;
+            promise(&mut keeper, &[0, 0, 0, 3, 0, 0, 0, 5], tape, &mut first),
+            Err(Fault::at(Reason::KeyDoesNotFit, 0))
+        );
+        assert_eq!(rt;
+            promise(&mut keeper, &[0, 0, 0, 1, 0, 0, 0, 12], tape, &mut first),
+            Ok(1)
+        );
+        let mut other = [0u8; 1000];
+        let mut keeper = Keeper::new(49, &mut other);
+        assert_eq!(rt;
+            promise(&mut keeper, &KEY, tape, &mut first),
+            Err(Fault::at(Reason::WrongSize, 7))
+        );
+        Ok(())
+    }
+
+    #[test]
+    fn unlawful_elements(rt: HostRuntime) -> Result<(), Fail> {
+        let mut tape = tape(rt.alloc(), 5)?;
+        let mut store = [0u8; 144];
         let mut work1 = [7u8; 16];
         let mut work2 = [7u8; 16];
         let mut work3 = [7u8; 16];
-        let outcome = keeper.promise::<Word, Sha256>(
+        let mut first = [0u8; 110];
+        let mut keeper = Keeper::new(48, &mut store);
+        let key = [0, 0, 0, 3, 0x7f, 0xff, 0xff, 0xff];
+        let bad_key = keeper.promise::<Residue, Sha256>(
             &Sha256,
-            &WORDS,
+            &RESIDUES,
+            &key,
+            tape.as_slice(),
+            &mut work1,
+            &mut work2,
+            &mut work3,
+            &mut first,
+        );
+        assert_eq!(rt; bad_key, Err(Fault::at(Reason::UnlawfulKey, 1)));
+        tape.truncate(120);
+        tape.extend_from_slice(&[0xff; 4])?;
+        let bad_tape = keeper.promise::<Residue, Sha256>(
+            &Sha256,
+            &RESIDUES,
             &KEY,
             tape.as_slice(),
             &mut work1,
             &mut work2,
             &mut work3,
-            first.as_mut_slice(),
+            &mut first,
         );
-        assert_eq!(rt; outcome, Ok(number));
-        Ok(first)
-    }
-
-    // A round answered at a pick: the verifier accepts it, and no round is answered twice.
-    fn opened(
-        rt: &impl Abort,
-        heap: Global,
-        keeper: &mut Keeper<'_>,
-        round: usize,
-        pick: u8,
-        first: &[u8],
-    ) -> Result<(), Fail> {
-        let mut answer = vec![in heap; 0u8; 99]?;
-        let mut work1 = [7u8; 16];
-        let mut work2 = [7u8; 16];
-        assert_eq!(rt; keeper.answer(round, pick, answer.as_mut_slice()), Ok(()));
-        assert_eq!(rt;
-            verify::<Word, Sha256>(
-                &Sha256,
-                &WORDS,
-                first,
-                pick,
-                answer.as_slice(),
-                &mut work1,
-                &mut work2,
-            ),
-            Ok(())
-        );
-        assert_eq!(rt;
-            keeper.answer(round, pick, answer.as_mut_slice()),
-            Err(Fault::at(Reason::SpentRound, round))
-        );
-        Ok(())
-    }
-
-    // Seven rounds, promised, answered and dropped in mixed order.
-    #[test]
-    fn a_mixed_history(rt: HostRuntime) -> Result<(), Fail> {
-        let heap = rt.alloc();
-        let mut store = vec![in heap; 3u8; 1010]?;
-        let mut keeper = Keeper::new(48, store.as_mut_slice());
-        let one = promise(&rt, heap, &mut keeper, 11, 1)?;
-        let two = promise(&rt, heap, &mut keeper, 22, 2)?;
-        opened(&rt, heap, &mut keeper, 2, 3, two.as_slice())?;
-        let _ = promise(&rt, heap, &mut keeper, 33, 3)?;
-        let four = promise(&rt, heap, &mut keeper, 44, 4)?;
-        assert_eq!(rt; keeper.drop_round(3), Ok(()));
-        opened(&rt, heap, &mut keeper, 1, 1, one.as_slice())?;
-        let five = promise(&rt, heap, &mut keeper, 55, 5)?;
-        opened(&rt, heap, &mut keeper, 5, 2, five.as_slice())?;
-        let six = promise(&rt, heap, &mut keeper, 66, 6)?;
-        let seven = promise(&rt, heap, &mut keeper, 77, 7)?;
-        opened(&rt, heap, &mut keeper, 7, 1, seven.as_slice())?;
-        assert_eq!(rt; keeper.drop_round(5), Err(Fault::at(Reason::SpentRound, 5)));
-        opened(&rt, heap, &mut keeper, 4, 3, four.as_slice())?;
-        opened(&rt, heap, &mut keeper, 6, 2, six.as_slice())?;
-        assert_eq!(rt;
-            keeper.drop_round(8),
-            Err(Fault::at(Reason::UnknownRound, 8))
-        );
-        for byte in &store.as_slice()[0..1008] {
-            assert!(rt; *byte == 0);
-        }
+        assert_eq!(rt; bad_tape, Err(Fault::at(Reason::UnlawfulTape, 120)));
+        assert_eq!(rt; first, [0u8; 110]);
+        assert_eq!(rt; work1, [0u8; 16]);
         Ok(())
     }
 }

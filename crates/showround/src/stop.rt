@@ -3,7 +3,7 @@ use engine::Fault;
 use std::alloc::AllocError;
 use std::io;
 
-#[derive(Drop)]
+#[derive(Debug, Drop)]
 pub enum Stop {
     Refused(Fault),
     NoMemory,

@@ -92,17 +92,17 @@ fn stores_left(rt: HostRuntime) -> Result<(), Fail> {
         assert!(rt; all(&store[144..176], 5));
         assert_eq!(rt;
             &store[176..192],
-            b"\0\0\0\x0a\0\0\0\x14\0\0\0\x64\0\0\x01\x4d"
+            b"\0\0\0\x0a\0\0\0\x14\0\0\0\x64\0\0\x01\x4d".as_slice()
         );
         assert!(rt; all(&store[192..224], 5));
         assert_eq!(rt;
             &store[224..240],
-            b"\0\0\0\x01\0\0\0\x02\0\0\0\x07\xff\xff\xff\xb5"
+            b"\0\0\0\x01\0\0\0\x02\0\0\0\x07\xff\xff\xff\xb5".as_slice()
         );
         assert!(rt; all(&store[240..272], 5));
         assert_eq!(rt;
             &store[272..289],
-            b"\xff\xff\xff\xf8\xff\xff\xff\xee\0\0\0\x32\xff\xff\xff\x0a\x09"
+            b"\xff\xff\xff\xf8\xff\xff\xff\xee\0\0\0\x32\xff\xff\xff\x0a\x09".as_slice()
         );
     }
     Ok(())
