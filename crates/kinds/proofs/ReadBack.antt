@@ -1,5 +1,5 @@
 -- A row that was written is read as its element.
-use Rattle.std.proofs.Common.{◌≡◌, ℕ, Bool, true, false, cond, List, Some, None, Option, sym, refl, ap, ◌∙◌, MatchOption}
+use Rattle.std.proofs.Common.{◌≡◌, ℕ, Bool, true, false, List, Some, None, Option, sym, ap, ◌∙◌, MatchOption}
 use Rattle.std.proofs.lemmas.Bool.{false≢true}
 
 module _ {E : Type 0} (row : E → List ℕ) (lawful : List ℕ → Bool) (same : (x y : E) → row x ≡ row y → x ≡ y) where

@@ -1,8 +1,8 @@
 -- The laws of the bit kind, by cases.
-use Rattle.std.specs.Prelude.{◌≡◌, ℕ, zero, suc, ◌<◌, true, false, List, [], ◌∷◌, length, ◌==◌, nat_lt, refl}
+use Rattle.std.specs.Prelude.{◌≡◌, ℕ, zero, suc, List, [], ◌∷◌, length, ◌==◌, nat_lt, refl}
 use Rattle.std.proofs.Common.{arith, lit≤}
 use Rattle.std.proofs.lemmas.Bool.{false≢true, and_parts, eqb-true, ltb-true}
-use Rattle.kinds.specs.Kind.{Kind, Laws, Lawful, Bytes}
+use Rattle.kinds.specs.Kind.{Laws, Lawful, Bytes}
 use Rattle.kinds.specs.Three.{bit_kind}
 
 data Two : List ℕ → Type 0 where

@@ -1,9 +1,9 @@
 -- The laws of arithmetic modulo m in four bytes, for every m up to 2 ^ 32.
-use Rattle.std.specs.Prelude.{◌≡◌, ℕ, zero, suc, ◌+◌, ◌-◌, ◌*◌, ◌/◌, ◌%◌, ◌<◌, ◌≤◌, Bool, true, false, ◌&&◌, ltb, List, [], ◌∷◌, length, ◌==◌, nat_lt, refl}
+use Rattle.std.specs.Prelude.{◌≡◌, ℕ, suc, ◌+◌, ◌-◌, ◌*◌, ◌/◌, ◌%◌, ◌<◌, ◌≤◌, true, ◌&&◌, ltb, List, [], ◌∷◌, length, ◌==◌, nat_lt, refl}
 use Rattle.std.proofs.Common.{sym, ap, ◌∙◌, arith, mod-lt, mod-eq_of_lt, add_assoc, add_comm, mul-add, add-mul, mul_comm, mul_left_comm, lit≤}
 use Rattle.std.proofs.Math.Nat.{mod_self, mod-add-mod, add-mod-mod, div-add-mod, mul-add-mod_self_left, div-div-eq-div-mul}
 use Rattle.std.proofs.lemmas.Bool.{false≢true, and_parts, and_from, eqb-true, ltb-true, lt-ltb}
-use Rattle.kinds.specs.Kind.{Kind, Laws, Lawful, Bytes}
+use Rattle.kinds.specs.Kind.{Laws, Lawful, Bytes}
 use Rattle.kinds.specs.Numbers.{number_of, four_bytes, all_bytes}
 use Rattle.kinds.specs.Three.{modular}
 

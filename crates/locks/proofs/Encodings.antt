@@ -1,5 +1,5 @@
 -- Reading and encoding are inverse to one another, on well-formed circuits.
-use Rattle.std.proofs.Common.{◌≡◌, ℕ, List, sym, ap, ◌∙◌}
+use Rattle.std.proofs.Common.{ℕ, List, sym, ap, ◌∙◌}
 use Rattle.kinds.specs.Kind.{Kind, Laws, Bytes}
 use Rattle.locks.specs.Reading.{lock_of}
 use Rattle.locks.specs.Encoding.{Reads, ReadingLaw}

@@ -1,10 +1,10 @@
 -- The turns of the reader's loops: what is left gives the whole.
-use Rattle.std.proofs.Common.{◌≡◌, ℕ, zero, suc, ◌+◌, ◌-◌, ◌<◌, ◌≤◌, List, [], ◌∷◌, length, drop, Ok, Err, Result, sym, refl, ap, ◌∙◌, add-zero, arith}
+use Rattle.std.proofs.Common.{◌≡◌, ℕ, suc, ◌+◌, ◌-◌, ◌<◌, ◌≤◌, List, drop, Ok, Err, Result, sym, refl, ap, ◌∙◌, add-zero, arith}
 use Rattle.faults.specs.declared.Fault.{Fault}
 use Rattle.faults.specs.Outcomes.{and_then, map_ok}
-use Rattle.faults.proofs.Passed.{ok_same, err_same, check_ok, then_ok, then_err}
+use Rattle.faults.proofs.Passed.{ok_same, check_ok, then_ok, then_err}
 use Rattle.kinds.specs.Kind.{Kind}
-use Rattle.locks.specs.Circuit.{Gate, ac, mc, ad, mu, Output, mus}
+use Rattle.locks.specs.Circuit.{Gate, ac, mc, ad, mu, Output}
 use Rattle.locks.specs.Reading.{gate_size, output_size, gate_in, output_in, gate_right, output_right, counted, gate_tested, output_tested, Records, in_front, gates_from, outputs_from}
 use Rattle.locks.specs.Model.{Standing, behind, past_gate, past_output, tally, all_read}
 use Rattle.locks.proofs.Spelled.{counted_is}

@@ -1,25 +1,23 @@
 -- A fault tells the first broken rule.
-use Rattle.std.proofs.Common.{◌≡◌, ℕ, zero, suc, ◌+◌, ◌*◌, ◌<◌, ◌≤◌, Bool, true, false, cond, ◌&&◌, eqb, ltb, leb, ◌⊎◌, List, [], ◌∷◌, ◌++◌, length, get_or, take, drop, Some, None, Ok, Err, Option, Result, sym, refl, ap, ◌∙◌, subst, inl, inr, ⊎_elim, append_assoc, add-zero, add_assoc, arith, length-append, length-drop}
-use Rattle.std.specs.List.{flat_map, AllByRecursion as All}
+use Rattle.std.proofs.Common.{◌≡◌, ℕ, zero, suc, ◌+◌, ◌<◌, ◌≤◌, Bool, true, false, ltb, leb, ◌⊎◌, List, [], ◌∷◌, ◌++◌, length, take, drop, Some, None, Ok, Err, Option, Result, sym, refl, ap, ◌∙◌, subst, inl, inr, ⊎_elim, append_assoc, add-zero, arith, length-append, length-drop}
+use Rattle.std.specs.List.{flat_map}
 use Rattle.std.proofs.lemmas.List.{take-append-drop}
-use Rattle.std.proofs.lemmas.Bool.{eqb-true, eqb-false, ltb-true, ltb-false, leb-true, leb-false, and_parts, and_from, eq-eqb}
+use Rattle.std.proofs.lemmas.Bool.{ltb-true, ltb-false, leb-true, leb-false}
 use Rattle.faults.specs.declared.Reason.{Reason}
 use Rattle.faults.specs.declared.Fault.{Fault}
 use Rattle.faults.specs.Numbers.{fault}
 use Rattle.faults.specs.Outcomes.{check, and_then, map_ok}
-use Rattle.faults.proofs.Passed.{err_ok, err_same, ok_same, check_ok}
-use Rattle.kinds.specs.Kind.{Kind, Laws, Lawful, Bytes}
-use Rattle.kinds.specs.Numbers.{number_of, four_bytes}
+use Rattle.faults.proofs.Passed.{err_ok, err_same, check_ok}
+use Rattle.kinds.specs.Kind.{Kind, Lawful, Bytes}
 use Rattle.locks.specs.declared.records.GateMark.{GateMark}
-use Rattle.locks.specs.declared.records.Counts.{Counts}
-use Rattle.locks.specs.Circuit.{Gate, ac, mc, ad, mu, Output, Circuit, mus}
-use Rattle.locks.specs.Limits.{most_inputs, most_gates, most_outputs, longest_view}
+use Rattle.locks.specs.Circuit.{Gate, ac, mc, ad, mu, mus}
+use Rattle.locks.specs.Limits.{longest_view}
 use Rattle.locks.specs.Lengths.{view_length}
-use Rattle.locks.specs.Reading.{marked, gate_mark, gate_size, output_size, wire_and_row, two_wires, gate_body, gate_in, output_body, output_in, wire_right, wire_and_row_right, two_wires_right, gate_right, output_right, counted, Records, in_front, gates_from, outputs_from}
-use Rattle.locks.specs.Encoding.{gate_bytes, output_bytes, GateFor, GatesFor, OutputFor}
+use Rattle.locks.specs.Reading.{marked, gate_mark, gate_size, wire_and_row, two_wires, gate_body, gate_in, wire_right, wire_and_row_right, two_wires_right, gate_right, counted, in_front, gates_from}
+use Rattle.locks.specs.Encoding.{gate_bytes, GateFor, GatesFor}
 use Rattle.locks.specs.Refusing.{letters, record_size, InFront, RowBroken, WiresBroken, FieldsBroken, GateBroken, gate_cut, gate_unmarked, gate_short, gate_field, gate_view}
 use Rattle.locks.proofs.Fields.{bytes_drop, mark_spelled, first_letter, second_letter, gate_marked}
-use Rattle.locks.proofs.Spelled.{GateStands, gate_stands, right_for, counted_is}
+use Rattle.locks.proofs.Spelled.{gate_stands, right_for, counted_is}
 use Rattle.locks.proofs.Written.{gate_long}
 
 -- a refused test

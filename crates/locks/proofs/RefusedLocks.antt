@@ -1,24 +1,23 @@
 -- A lock that is refused: what stands before the broken rule, and the rule.
-use Rattle.std.proofs.Common.{◌≡◌, ℕ, zero, suc, ◌+◌, ◌*◌, ◌<◌, ◌≤◌, Bool, true, false, cond, ◌&&◌, eqb, ltb, leb, ◌⊎◌, List, [], ◌∷◌, ◌++◌, length, get_or, take, drop, Ok, Err, Result, sym, refl, ap, ◌∙◌, subst, inl, inr, ⊎_elim, append_assoc, append-nil, add-zero, add_assoc, arith, length-append, length-drop}
+use Rattle.std.proofs.Common.{◌≡◌, ℕ, zero, suc, ◌+◌, ◌<◌, ◌≤◌, Bool, true, false, ◌&&◌, eqb, leb, List, [], ◌∷◌, ◌++◌, length, get_or, take, drop, Ok, Err, sym, refl, ap, ◌∙◌, subst, inl, inr, ⊎_elim, append_assoc, add-zero, arith, length-append, length-drop}
 use Rattle.std.specs.List.{flat_map, AllByRecursion as All}
 use Rattle.std.proofs.lemmas.List.{take-append-drop}
 use Rattle.std.proofs.lemmas.Bool.{eqb-true, eqb-false, leb-true, leb-false, and_parts, and_from, eq-eqb, false≢true}
 use Rattle.faults.specs.declared.Reason.{Reason}
 use Rattle.faults.specs.declared.Fault.{Fault}
 use Rattle.faults.specs.Numbers.{fault}
-use Rattle.faults.specs.Outcomes.{check, and_then, map_ok}
-use Rattle.faults.proofs.Passed.{err_ok, err_same, ok_same, check_ok, then_ok, map_ok_was}
+use Rattle.faults.proofs.Passed.{err_ok, ok_same, check_ok, then_ok, map_ok_was}
 use Rattle.kinds.specs.Kind.{Kind, Laws, Lawful, Bytes}
-use Rattle.kinds.specs.Numbers.{number_of, four_bytes}
+use Rattle.kinds.specs.Numbers.{number_of}
 use Rattle.locks.specs.declared.records.Counts.{Counts}
 use Rattle.locks.specs.Circuit.{Gate, Output, Circuit, mus}
 use Rattle.locks.specs.Limits.{most_inputs, most_gates, most_outputs}
-use Rattle.locks.specs.Reading.{marked, gate_size, gate_in, gate_right, counted, output_size, wire_and_row, output_body, output_in, output_right, Records, in_front, gates_from, outputs_from, ended, count_within, counts_of, header_of, records_of, lock_of}
-use Rattle.locks.specs.Encoding.{gate_bytes, output_bytes, encoded, GatesFor, OutputFor, WellFormed}
-use Rattle.locks.specs.Refusing.{InFront, RowBroken, GateBroken, OutputBroken, output_cut, output_unmarked, output_short, output_field, header_bytes, Inside, Outside, CountsBroken, HeaderBroken, header_cut, header_unmarked, header_short, header_field, HeaderRight, Refused, in_header, in_gate, in_output, behind, RefusalLaw}
+use Rattle.locks.specs.Reading.{marked, gate_size, gate_in, gate_right, counted, output_size, wire_and_row, output_in, output_right, Records, in_front, gates_from, outputs_from, ended, count_within, counts_of, header_of, records_of, lock_of}
+use Rattle.locks.specs.Encoding.{gate_bytes, output_bytes, encoded, OutputFor}
+use Rattle.locks.specs.Refusing.{InFront, GateBroken, OutputBroken, output_cut, output_unmarked, output_short, output_field, header_bytes, Inside, Outside, CountsBroken, HeaderBroken, header_cut, header_unmarked, header_short, header_field, HeaderRight, Refused, in_header, in_gate, in_output, behind, RefusalLaw}
 use Rattle.locks.proofs.Fields.{bytes_drop, mark_spelled}
-use Rattle.locks.proofs.Spelled.{OutputStands, output_stands, row_for, gates_stand, outputs_stand, header_stands, counts_spelled, parts_well_formed, parts_spelled, GatesStand, OutputsStand, HeaderStands, gate_stands}
-use Rattle.locks.proofs.Refusals.{check_err, then_refused, map_refused, row_short, row_broken, GatesBroken, gates_broken}
+use Rattle.locks.proofs.Spelled.{output_stands, row_for, gates_stand, outputs_stand, header_stands, counts_spelled, parts_well_formed, parts_spelled, GatesStand, OutputsStand, HeaderStands, gate_stands}
+use Rattle.locks.proofs.Refusals.{check_err, then_refused, map_refused, row_short, row_broken, gates_broken}
 
 -- two letters stand in front exactly when the mark test says so
 marked_by : (a b : ℕ) (ys : List ℕ) → marked a b (a ∷ b ∷ ys) ≡ true

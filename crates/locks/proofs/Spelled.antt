@@ -1,9 +1,9 @@
 -- What was read is well-formed, and its encoding is what was read.
-use Rattle.std.proofs.Common.{◌≡◌, ℕ, zero, suc, ◌+◌, ◌*◌, ◌<◌, ◌≤◌, Bool, true, false, cond, ◌&&◌, eqb, ltb, leb, List, [], ◌∷◌, ◌++◌, length, get_or, take, drop, Some, None, Ok, Err, Option, Result, sym, refl, ap, ◌∙◌, subst, append_assoc, append-nil, add-zero, add_assoc, arith, length-drop, drop-drop}
+use Rattle.std.proofs.Common.{◌≡◌, ℕ, zero, suc, ◌+◌, ◌<◌, ◌≤◌, true, leb, List, [], ◌∷◌, ◌++◌, length, get_or, take, drop, Some, None, Ok, Option, sym, refl, ap, ◌∙◌, subst, append_assoc, append-nil, add-zero, arith, length-drop, drop-drop}
 use Rattle.std.specs.List.{flat_map, AllByRecursion as All}
 use Rattle.std.proofs.lemmas.List.{nil_from_length}
 use Rattle.std.proofs.lemmas.Bool.{eqb-true, ltb-true, leb-true, and_parts}
-use Rattle.faults.specs.Outcomes.{check, and_then, map_ok}
+use Rattle.faults.specs.Outcomes.{and_then, map_ok}
 use Rattle.faults.proofs.Passed.{err_ok, ok_same, check_ok, then_ok, map_ok_was}
 use Rattle.kinds.specs.Kind.{Kind, Lawful, Bytes}
 use Rattle.kinds.specs.Numbers.{number_of, four_bytes}
@@ -12,7 +12,7 @@ use Rattle.locks.specs.declared.records.Counts.{Counts}
 use Rattle.locks.specs.Circuit.{Gate, ac, mc, ad, mu, Output, Circuit, mus}
 use Rattle.locks.specs.Limits.{most_inputs, most_gates, most_outputs, longest_view}
 use Rattle.locks.specs.Lengths.{view_length}
-use Rattle.locks.specs.Reading.{marked, gate_mark, gate_size, output_size, wire_and_row, two_wires, gate_body, gate_in, output_in, wire_right, wire_and_row_right, two_wires_right, gate_right, output_right, counted, Records, in_front, gates_from, outputs_from, gates_in, outputs_in, ended, counts_of, header_of, records_of, lock_of}
+use Rattle.locks.specs.Reading.{marked, gate_mark, gate_size, output_size, wire_and_row, two_wires, gate_body, gate_in, output_in, wire_right, wire_and_row_right, two_wires_right, gate_right, output_right, counted, Records, in_front, gates_from, outputs_from, gates_in, outputs_in, ended, header_of, records_of, lock_of}
 use Rattle.locks.specs.Encoding.{gate_bytes, output_bytes, encoded, GateFor, GatesFor, OutputFor, WellFormed}
 use Rattle.locks.proofs.Fields.{number_spelled, bytes_drop, cut, mark_spelled, first_letter, second_letter, gate_marked, view_starts}
 

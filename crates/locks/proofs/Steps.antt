@@ -1,5 +1,5 @@
 -- Parts of the bytes as the code takes them, and as the definitions do.
-use Rattle.std.proofs.Common.{◌≡◌, ℕ, ◌+◌, ◌*◌, ◌≤◌, Bool, true, leb, List, [], ◌∷◌, length, get_or, drop, Option, Result, sym, ap, ◌∙◌, add-zero, arith, get_or-drop}
+use Rattle.std.proofs.Common.{◌≡◌, ℕ, ◌+◌, ◌*◌, ◌≤◌, Bool, leb, List, [], ◌∷◌, length, get_or, drop, Option, Result, sym, ap, ◌∙◌, add-zero, arith, get_or-drop}
 use Rattle.std.specs.List.{between}
 use Rattle.std.proofs.lemmas.Slice.{between_to_end}
 use Rattle.std.proofs.lemmas.Bool.{le-leb}

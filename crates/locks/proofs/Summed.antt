@@ -1,5 +1,5 @@
 -- A lock is read as its header and its records are.
-use Rattle.std.proofs.Common.{◌≡◌, ℕ, zero, suc, ◌+◌, ◌^◌, ◌<◌, ◌≤◌, List, [], ◌∷◌, length, get_or, drop, Ok, Err, Result, sym, refl, ap, ◌∙◌, subst, arith, w8, Fits}
+use Rattle.std.proofs.Common.{◌≡◌, ℕ, ◌+◌, ◌<◌, ◌≤◌, List, [], ◌∷◌, length, get_or, drop, Ok, Err, Result, sym, refl, ap, ◌∙◌, subst, arith, w8, Fits}
 use Rattle.std.proofs.ByRecursion.{All-from_get_or}
 use Rattle.faults.specs.declared.Fault.{Fault}
 use Rattle.faults.specs.Outcomes.{and_then, map_ok}
@@ -9,7 +9,7 @@ use Rattle.locks.specs.declared.records.Counts.{Counts}
 use Rattle.locks.specs.Circuit.{Gate, ac, mc, ad, mu, Circuit, mus}
 use Rattle.locks.specs.Reading.{header_of, records_of, lock_of, gates_in, outputs_in}
 use Rattle.locks.specs.Model.{behind_header}
-use Rattle.locks.specs.Locks.{Summary, summary, Walks, Walkable}
+use Rattle.locks.specs.Locks.{summary, Walks, Walkable}
 use Rattle.locks.proofs.Spelled.{lock_stands, gates_stand, outputs_stand}
 
 -- what a slice of bytes holds are bytes

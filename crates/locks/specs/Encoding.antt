@@ -1,7 +1,6 @@
 -- A circuit as bytes, which circuits are well-formed, and what reading has to do with them.
-use Rattle.std.specs.Prelude.{◌≡◌, ℕ, suc, ◌+◌, ◌<◌, ◌≤◌, List, [], ◌∷◌, ◌++◌, length, Ok, Err, Result}
+use Rattle.std.specs.Prelude.{◌≡◌, ℕ, suc, ◌+◌, ◌<◌, ◌≤◌, List, [], ◌∷◌, ◌++◌, length, Ok}
 use Rattle.std.specs.List.{flat_map, AllByRecursion as All}
-use Rattle.faults.specs.declared.Fault.{Fault}
 use Rattle.kinds.specs.Kind.{Kind, Laws, Lawful, Bytes}
 use Rattle.kinds.specs.Numbers.{four_bytes}
 use Rattle.locks.specs.Circuit.{Gate, ac, mc, ad, mu, Output, Circuit, mus}

@@ -1,12 +1,11 @@
 -- Why bytes are refused, told by the encoding and not by the reader: all that stands before the broken rule is well-formed.
-use Rattle.std.specs.Prelude.{◌≡◌, ℕ, ◌+◌, ◌<◌, ◌≤◌, true, false, ◌⊎◌, List, [], ◌∷◌, ◌++◌, length, take, Ok, Err, Result, ◌≢◌}
-use Rattle.std.proofs.Common.{inl, inr}
+use Rattle.std.specs.Prelude.{◌≡◌, ℕ, ◌+◌, ◌<◌, ◌≤◌, false, ◌⊎◌, List, [], ◌∷◌, ◌++◌, length, take, Err, ◌≢◌}
 use Rattle.std.specs.List.{flat_map, AllByRecursion as All}
 use Rattle.faults.specs.declared.Reason.{Reason}
 use Rattle.faults.specs.declared.Fault.{Fault}
 use Rattle.faults.specs.Numbers.{fault}
-use Rattle.kinds.specs.Kind.{Kind, Laws, Lawful, Bytes}
-use Rattle.kinds.specs.Numbers.{number_of, four_bytes}
+use Rattle.kinds.specs.Kind.{Kind, Laws, Bytes}
+use Rattle.kinds.specs.Numbers.{four_bytes}
 use Rattle.locks.specs.declared.records.GateMark.{GateMark}
 use Rattle.locks.specs.declared.records.Counts.{Counts}
 use Rattle.locks.specs.Circuit.{Gate, ac, mc, ad, mu, Output, Circuit, mus}

@@ -1,5 +1,5 @@
 -- The text that tells of a lock: what it is, or why it is refused.
-use Rattle.std.specs.Prelude.{ℕ, cond, List, [], ◌∷◌, ◌++◌, Ok, Err, codes, decimal, Result, ◌==◌, slice_index}
+use Rattle.std.specs.Prelude.{ℕ, cond, List, ◌++◌, Ok, Err, codes, decimal, Result, ◌==◌, slice_index}
 use Rattle.faults.specs.declared.Fault.{Fault}
 use Rattle.faults.specs.Numbers.{number_of}
 use Rattle.faults.specs.Outcomes.{map_ok}

@@ -1,5 +1,5 @@
 -- The closed branch: for two opened views and any closed shares there is one choice of masks.
-use Rattle.std.proofs.Common.{◌≡◌, suc, ◌+◌, List, [], ◌∷◌, ◌++◌, length, sym, refl, ap, ◌∙◌, ap₂}
+use Rattle.std.proofs.Common.{◌≡◌, suc, List, [], ◌∷◌, ◌++◌, length, sym, refl, ap, ◌∙◌, ap₂}
 use Rattle.locks.specs.Circuit.{Gate, ac, mc, ad, mu, mus}
 use Rattle.theory.specs.Algebra.{Ops, Rules}
 use Rattle.theory.specs.Runs.{Branch, View, tail, front, read, head, share, right, local, plus_constant, step, due}

@@ -7,7 +7,7 @@ use Rattle.std.specs.List.{AllByRecursion as All}
 use Rattle.kinds.specs.Kind.{Kind, Lawful, Laws}
 use Rattle.locks.specs.Circuit.{Circuit}
 use Rattle.theory.specs.Completeness.{Honest, Completes}
-use Rattle.theory.specs.History.{Call, call_promise, call_answer, told_round, told_answer, tells, run, made}
+use Rattle.theory.specs.History.{Call, call_promise, call_answer, told_round, told_answer, tells, run}
 use Rattle.theory.specs.Keeper.{after_promise, kept, own_view_bytes, Keeper, made_from, state_of, Given, circuit_in, answer_result, first_after, answer_after, promise_result}
 use Rattle.theory.specs.Messages.{view_bytes, length_of_view, view_of, outs_in, seal_in, picked_view, next_view, pick_byte, answer_bytes, length_of_work}
 use Rattle.theory.proofs.Tolds.{told_law, promise_accepted, answer_accepted}

@@ -1,5 +1,5 @@
 -- Groups of elements: read as written, written as read.
-use Rattle.std.proofs.Common.{◌≡◌, ℕ, zero, suc, ◌+◌, ◌-◌, ◌*◌, ◌<◌, ◌≤◌, List, [], ◌∷◌, ◌++◌, length, get_or, take, drop, sym, refl, ap, ◌∙◌, subst, ap₂, append_assoc, append-nil, suc-mul, zero-mul, arith, length-append, take-take, drop-drop, take_at, drop_at}
+use Rattle.std.proofs.Common.{◌≡◌, ℕ, zero, suc, ◌+◌, ◌*◌, ◌<◌, ◌≤◌, List, [], ◌∷◌, ◌++◌, length, get_or, take, drop, sym, refl, ap, ◌∙◌, subst, ap₂, append_assoc, append-nil, suc-mul, zero-mul, arith, length-append, take-take, drop-drop, take_at, drop_at}
 use Rattle.std.proofs.lemmas.List.{take-append-drop, drop-take, length-take-le}
 use Rattle.std.specs.List.{AllByRecursion as All}
 use Rattle.kinds.specs.Kind.{Kind, Laws, Lawful, Bytes}

@@ -3,7 +3,7 @@ use Rattle.std.proofs.Common.{◌≡◌, ℕ, suc, ◌+◌, ◌*◌, ◌<◌, Bo
 use mathlib.Core.Path.{fun_ext}
 use Rattle.faults.specs.declared.Fault.{Fault}
 use Rattle.kinds.specs.Kind.{Laws}
-use Rattle.theory.specs.Runs.{Branch, one, next}
+use Rattle.theory.specs.Runs.{Branch, next}
 use Rattle.theory.specs.Messages.{pick_byte, answer_bytes}
 use Rattle.theory.specs.Tests.{Verdict, left}
 use Rattle.theory.specs.declared.RoundState.{RoundState}

@@ -1,5 +1,5 @@
 -- Sums of lists, element by element.
-use Rattle.std.proofs.Common.{◌≡◌, ℕ, zero, suc, ◌+◌, List, [], ◌∷◌, ◌++◌, length, sym, refl, ap, ◌∙◌, ap₂, arith}
+use Rattle.std.proofs.Common.{◌≡◌, ℕ, zero, suc, List, [], ◌∷◌, ◌++◌, length, sym, refl, ap, ◌∙◌, ap₂, arith}
 use Rattle.locks.specs.Circuit.{Output}
 use Rattle.theory.specs.Algebra.{Ops, Rules}
 use Rattle.theory.specs.Runs.{read, sum, less, at_outputs}

@@ -1,5 +1,5 @@
 -- The wires of three right views sum to the plain run's.
-use Rattle.std.proofs.Common.{◌≡◌, ℕ, suc, ◌+◌, List, [], ◌∷◌, ◌++◌, length, sym, refl, ap, ◌∙◌, ap₂}
+use Rattle.std.proofs.Common.{◌≡◌, ℕ, suc, List, [], ◌∷◌, ◌++◌, length, sym, refl, ap, ◌∙◌, ap₂}
 use Rattle.locks.specs.Circuit.{Gate, ac, mc, ad, mu}
 use Rattle.theory.specs.Algebra.{Ops, Rules}
 use Rattle.theory.specs.Runs.{Branch, one, two, three, next, View, tail, read, head, sum, sum_of, value, plain, share, right, local, step, rerun, due}

@@ -1,5 +1,5 @@
 -- A group of elements as bytes, and back: the one place that says how. What lies above uses the laws.
-use Rattle.std.specs.Prelude.{◌≡◌, ℕ, zero, suc, ◌+◌, ◌*◌, ◌<◌, List, [], ◌∷◌, ◌++◌, length, take, drop, slice_index_or}
+use Rattle.std.specs.Prelude.{◌≡◌, ℕ, zero, suc, ◌*◌, ◌<◌, List, [], ◌∷◌, ◌++◌, length, take, drop, slice_index_or}
 use Rattle.std.specs.List.{AllByRecursion as All}
 use Rattle.kinds.specs.Kind.{Kind, Laws, Lawful, Bytes}
 use Rattle.kinds.specs.Groups.{group_length}

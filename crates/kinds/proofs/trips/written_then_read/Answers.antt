@@ -1,4 +1,4 @@
-use Rattle.std.proofs.Common.{◌≡◌, true, cond, eqb, length, sym, ◌∙◌}
+use Rattle.std.proofs.Common.{◌≡◌, true, eqb, length, sym, ◌∙◌}
 use Rattle.std.proofs.lemmas.Bool.{cond-true}
 use Rattle.kinds.proofs.ReadBack.{read_back}
 use Rattle.kinds.proofs.trips.written_then_read.Goals as goal

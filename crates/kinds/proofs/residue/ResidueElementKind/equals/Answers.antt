@@ -1,4 +1,4 @@
-use Rattle.std.proofs.Common.{◌<◌, arith}
+use Rattle.std.proofs.Common.{arith}
 use Rattle.kinds.proofs.Same.{by_number}
 use Rattle.kinds.proofs.residue.ResidueElementKind.equals.Goals as goal
 

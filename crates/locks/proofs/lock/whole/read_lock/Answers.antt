@@ -1,14 +1,13 @@
-use Rattle.std.proofs.Common.{◌≡◌, ℕ, ◌≤◌, List, length, Ok, Err, Result, sym, ap, ◌∙◌, subst, arith}
+use Rattle.std.proofs.Common.{◌≡◌, ℕ, ◌≤◌, List, length, Ok, Err, Result, sym, ap, ◌∙◌, arith}
 use Rattle.std.proofs.lemmas.Result.{err_from_is_err_and}
 use Rattle.faults.specs.declared.Fault.{Fault}
 use Rattle.faults.specs.Outcomes.{map_ok}
-use Rattle.kinds.specs.Kind.{Kind, Laws}
+use Rattle.kinds.specs.Kind.{Kind}
 use Rattle.std.specs.List.{between}
 use Rattle.locks.specs.declared.records.Counts.{Counts}
 use Rattle.locks.specs.declared.lock.Lock.{Lock}
 use Rattle.locks.specs.Circuit.{Circuit, mus}
 use Rattle.locks.specs.Reading.{header_of, records_of, lock_of}
-use Rattle.locks.specs.Encoding.{Reads}
 use Rattle.locks.specs.Locks.{summary, summary_of, record_bytes, Walkable}
 use Rattle.locks.proofs.Encodings.{reads}
 use Rattle.locks.proofs.Steps.{to_end}
