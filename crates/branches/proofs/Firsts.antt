@@ -1,6 +1,6 @@
 -- The first wrong one, found by going through a list from the front.
 use Rattle.std.proofs.Common.{◌≡◌, ℕ, suc, ◌+◌, ◌<◌, ◌≤◌, Bool, true, false, cond, not, eqb, List, [], ◌∷◌, length, get_or, drop, is_some, Some, None, Option, sym, refl, ap, ◌∙◌, ap₂, add-zero, arith}
-use Rattle.std.specs.List.{AllByRecursion as All}
+use Rattle.std.specs.List.{AllByRecursion}
 use Rattle.std.proofs.lemmas.List.{drop_more, drop_all}
 use Rattle.kinds.specs.Kind.{Kind, Lawful, same_row}
 use Rattle.theory.specs.Algebra.{ops_of}
@@ -40,7 +40,7 @@ unlawful_here K xs j h = ap (unlawful K) (drop_more xs j K.zero h)
 pub unlawful_end : (K : Kind) (xs : List (List ℕ)) (j : ℕ) → length xs ≤ j → from j (unlawful K (drop j xs)) ≡ None
 unlawful_end K xs j h = ap (λ (ys : List (List ℕ)). from j (unlawful K ys)) (drop_all j xs h)
 
-pub all_lawful : (K : Kind) (xs : List (List ℕ)) → unlawful K xs ≡ None → All (Lawful K) xs
+pub all_lawful : (K : Kind) (xs : List (List ℕ)) → unlawful K xs ≡ None → AllByRecursion (Lawful K) xs
 all_lawful K xs e = lawful_all K xs e
 
 -- rows that differ

@@ -1,7 +1,7 @@
 -- Elements in a group: where they lie, and what a write leaves.
 use Rattle.std.proofs.Common.{◌≡◌, ℕ, zero, suc, ◌+◌, ◌*◌, ◌<◌, ◌≤◌, false, List, [], ◌∷◌, ◌++◌, length, take, drop, set, is_some, Some, None, Option, sym, ap, ◌∙◌, subst, suc-mul, zero-mul, add-one, arith, length-drop, take-take, drop-drop, take_at, drop_at, MatchOption}
 use lib.Seq.{take-append-le, drop-append-le}
-use Rattle.std.specs.List.{AllByRecursion as All}
+use Rattle.std.specs.List.{AllByRecursion}
 use Rattle.std.proofs.lemmas.List.{get_or_default, drop-take, length-take-le, take_more, take_all}
 use Rattle.std.proofs.lemmas.Slice.{drop-put_mid}
 use Rattle.kinds.specs.Kind.{Kind, Lawful}
@@ -37,7 +37,7 @@ module _ (K : Kind) where
       let lt : i < length (group K n bs) = omega (arith, counted K n bs) in
       get_or_default (group K n bs) i K.zero [] lt ∙ placed K n i bs h
 
-  pub element_lawful : (n i : ℕ) (bs : List ℕ) → i < n → All (Lawful K) (group K n bs) → Lawful K (row_at K.width (element_at K i) bs)
+  pub element_lawful : (n i : ℕ) (bs : List ℕ) → i < n → AllByRecursion (Lawful K) (group K n bs) → Lawful K (row_at K.width (element_at K i) bs)
   element_lawful n i bs h l =
       let lt : i < length (group K n bs) = omega (arith, counted K n bs) in
       subst (Lawful K) (element_read n i bs h) (all_get (Lawful K) (group K n bs) i K.zero lt l)

@@ -1,7 +1,7 @@
 -- Wires in a work space and elements in a group: where they lie, and what a write leaves.
 use Rattle.std.proofs.Common.{◌≡◌, ℕ, zero, suc, ◌+◌, ◌*◌, ◌<◌, ◌≤◌, List, [], ◌∷◌, ◌++◌, length, get_or, take, drop, sym, refl, ap, ◌∙◌, subst, mul-le-mul_right, suc-mul, add_comm, zero-mul, arith, length-drop, take-append-drop, length-take-le, drop-drop, take_at, drop_at}
 use lib.Seq.{take-append-le, drop-append-le}
-use Rattle.std.specs.List.{AllByRecursion as All}
+use Rattle.std.specs.List.{AllByRecursion}
 use Rattle.kinds.specs.Kind.{Kind, Laws, Lawful}
 use Rattle.theory.specs.Algebra.{ops_of}
 use Rattle.theory.specs.Runs.{read}
@@ -12,11 +12,11 @@ pub row_below : (a n w : ℕ) → a < n → a * w + w ≤ n * w
 row_below a n w h = let m : suc a * w ≤ n * w = mul-le-mul_right w h in omega (arith, suc-mul a w)
 
 -- lists of which all elements have a property
-pub all_snoc : {A : Type 0} (P : A → Type 0) (xs : List A) (x : A) → All P xs → P x → All P (xs ++ (x ∷ []))
+pub all_snoc : {A : Type 0} (P : A → Type 0) (xs : List A) (x : A) → AllByRecursion P xs → P x → AllByRecursion P (xs ++ (x ∷ []))
 all_snoc P [] x h p = (p, tt)
 all_snoc P (y ∷ ys) x h p = (h.0, all_snoc P ys x h.1 p)
 
-pub all_get : {A : Type 0} (P : A → Type 0) (xs : List A) (a : ℕ) (z : A) → a < length xs → All P xs → P (get_or xs a z)
+pub all_get : {A : Type 0} (P : A → Type 0) (xs : List A) (a : ℕ) (z : A) → a < length xs → AllByRecursion P xs → P (get_or xs a z)
 all_get P [] a z h l = absurd (omega arith)
 all_get P (y ∷ ys) zero z h l = l.0
 all_get P (y ∷ ys) (suc a) z h l = all_get P ys a z (omega arith) l.1
@@ -87,13 +87,13 @@ module _ (K : Kind) where
     wires_put sized = wires_more n (put_row K.width (n * K.width) row work) ∙ (λ i. kept i ++ (put sized i ∷ []))
 
   -- a wire below n is lawful where all n are
-  pub wire_lawful : (n : ℕ) (bs : List ℕ) (a : ℕ) → a < n → All (Lawful K) (wires_in K n bs) → Lawful K (row_at K.width (a * K.width) bs)
+  pub wire_lawful : (n : ℕ) (bs : List ℕ) (a : ℕ) → a < n → AllByRecursion (Lawful K) (wires_in K n bs) → Lawful K (row_at K.width (a * K.width) bs)
   wire_lawful n bs a h l =
       let lt : a < length (wires_in K n bs) = omega (arith, wires_length n bs) in
       subst (Lawful K) (wires_read n bs a K.zero h) (all_get (Lawful K) (wires_in K n bs) a K.zero lt l)
 
   -- whatever is read of lawful rows is lawful: past the end it is zero
-  pub read_lawful : Laws K → (ws : List (List ℕ)) (a : ℕ) → All (Lawful K) ws → Lawful K (read (ops_of K) ws a)
+  pub read_lawful : Laws K → (ws : List (List ℕ)) (a : ℕ) → AllByRecursion (Lawful K) ws → Lawful K (read (ops_of K) ws a)
   read_lawful laws [] a l = laws.zero_lawful
   read_lawful laws (y ∷ ys) zero l = l.0
   read_lawful laws (y ∷ ys) (suc a) l = read_lawful laws ys a l.1

@@ -1,6 +1,6 @@
 -- One gate on: what is left of masks and products, and lawful wires.
 use Rattle.std.proofs.Common.{◌≡◌, ℕ, zero, suc, ◌+◌, ◌<◌, List, [], ◌∷◌, length, drop, sym, refl, ap, ◌∙◌, add-zero, add-one, arith}
-use Rattle.std.specs.List.{AllByRecursion as All}
+use Rattle.std.specs.List.{AllByRecursion}
 use Rattle.kinds.specs.Kind.{Kind, Laws, Lawful}
 use Rattle.locks.specs.Circuit.{Gate, ac, mc, ad, mu, mus}
 use Rattle.locks.specs.Encoding.{GateFor}
@@ -44,7 +44,7 @@ local_taken K i ws p (mc a c) = refl
 local_taken K i ws p (ad a b) = refl
 local_taken K i ws p (mu a b) = refl
 
-pub local_lawful : (K : Kind) → Laws K → (i : Branch) (ws : List (List ℕ)) (p : List ℕ) (own : ℕ) (g : Gate (List ℕ)) → GateFor K own g → All (Lawful K) ws → Lawful K p
+pub local_lawful : (K : Kind) → Laws K → (i : Branch) (ws : List (List ℕ)) (p : List ℕ) (own : ℕ) (g : Gate (List ℕ)) → GateFor K own g → AllByRecursion (Lawful K) ws → Lawful K p
     → Lawful K (local (ops_of K) i ws p g)
 local_lawful K laws one ws p own (ac a c) f l h = laws.add_lawful _ _ (read_lawful K laws ws a l) f.1
 local_lawful K laws two ws p own (ac a c) f l h = read_lawful K laws ws a l

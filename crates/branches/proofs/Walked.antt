@@ -1,6 +1,6 @@
 -- A lock that was read can be walked again, and gives its circuit.
 use Rattle.std.proofs.Common.{◌≡◌, ℕ, zero, suc, ◌+◌, ◌-◌, ◌*◌, ◌<◌, ◌≤◌, Bool, true, false, leb, List, [], ◌∷◌, length, get_or, take, drop, is_ok as isOk, IfOk, Ok, Err, Result, sym, refl, ap, ◌∙◌, subst, add-zero, suc-mul, zero-mul, arith, length-drop, get_or-drop, drop-drop}
-use Rattle.std.specs.List.{AllByRecursion as All}
+use Rattle.std.specs.List.{AllByRecursion}
 use Rattle.faults.specs.declared.Fault.{Fault}
 use Rattle.faults.specs.declared.Reason.{Reason}
 use Rattle.faults.specs.Numbers.{fault}
@@ -98,8 +98,8 @@ module _ (K : Kind) where
           ∙ ap (λ (r : Result (Records (Output (List ℕ))) Fault). items_of (map_ok (in_front u) r)) more.1
           ∙ ap (λ (r : Result (Records (Output (List ℕ))) Fault). u ∷ items_of r) (sym more.1)
 
-      out_both : OutputFor K wires u × All (OutputFor K wires) (outputs_at K n (behind (output_size K) s))
-      out_both = subst (All (OutputFor K wires)) outputs_one l.for
+      out_both : OutputFor K wires u × AllByRecursion (OutputFor K wires) (outputs_at K n (behind (output_size K) s))
+      out_both = subst (AllByRecursion (OutputFor K wires)) outputs_one l.for
 
       pub output_for : OutputFor K wires u
       output_for = out_both.0
@@ -229,7 +229,7 @@ module _ (K : Kind) where
         let count : length (gates_at K lock.gates (gates_place lock)) ≡ lock.gates = ap length gates_is ∙ sym (ap (λ (s : Summary). s.gates) sums) in
         record {
           gates_stand = record { walked = ap isOk gates_read; for = well.gates_for };
-          outputs_stand = record { walked = ap isOk moved.1; for = subst (λ (n : ℕ). All (OutputFor K (lock.inputs + n)) (outputs_at K lock.outputs (outputs_place K lock))) count well.outputs_for };
+          outputs_stand = record { walked = ap isOk moved.1; for = subst (λ (n : ℕ). AllByRecursion (OutputFor K (lock.inputs + n)) (outputs_at K lock.outputs (outputs_place K lock))) count well.outputs_for };
           outputs_long = long;
           well_formed = well;
           summed = ap summary circuit_is ∙ sym sums;

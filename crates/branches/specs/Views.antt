@@ -1,6 +1,6 @@
 -- A view's parts as the code holds them, and the view that they say.
 use Rattle.std.specs.Prelude.{ℕ, ◌≤◌, List, length, drop}
-use Rattle.std.specs.List.{AllByRecursion as All}
+use Rattle.std.specs.List.{AllByRecursion}
 use Rattle.kinds.specs.Kind.{Kind, Lawful}
 use Rattle.kinds.specs.Groups.{group_length}
 use Rattle.locks.specs.Circuit.{Gate, ac, mc, ad, mu}
@@ -40,5 +40,5 @@ module _ (K : Kind) where
   pub record Opens (m : ℕ) (v : ViewParts) : Type 0 where
     pub masks_room : group_length K m ≤ length v.masks.now
     pub products_room : group_length K m ≤ length v.products.now
-    pub masks_lawful : All (Lawful K) (group K m v.masks.now)
-    pub products_lawful : All (Lawful K) (group K m v.products.now)
+    pub masks_lawful : AllByRecursion (Lawful K) (group K m v.masks.now)
+    pub products_lawful : AllByRecursion (Lawful K) (group K m v.products.now)

@@ -1,6 +1,6 @@
 -- A lock that was read, walked again: its circuit, from the counts and the bytes of its records.
 use Rattle.std.specs.Prelude.{◌≡◌, ℕ, ◌+◌, ◌-◌, ◌*◌, ◌≤◌, true, List, [], length, drop, is_ok, Ok, Err, Result}
-use Rattle.std.specs.List.{AllByRecursion as All}
+use Rattle.std.specs.List.{AllByRecursion}
 use Rattle.faults.specs.declared.Fault.{Fault}
 use Rattle.kinds.specs.Kind.{Kind}
 use Rattle.locks.specs.declared.lock.Lock.{Lock}
@@ -28,7 +28,7 @@ pub record GatesStand (K : Kind) (n own : ℕ) (s : Standing) : Type 0 where
 
 pub record OutputsStand (K : Kind) (n wires : ℕ) (s : Standing) : Type 0 where
   pub walked : is_ok (outputs_in K n s.at s.rest) ≡ true
-  pub for : All (OutputFor K wires) (outputs_at K n s)
+  pub for : AllByRecursion (OutputFor K wires) (outputs_at K n s)
 
 -- in front of the gates; in front of the outputs, which are found from the end since all have one size
 abbrev pub gates_place : Lock → Standing

@@ -1,6 +1,6 @@
 // One gate: on whole values, and in one branch.
 ghost use Rattle.std.specs.Prelude.{◌≡◌, suc, ◌*◌, ◌≤◌, [], ◌∷◌, ◌++◌, length};
-ghost use Rattle.std.specs.List.{AllByRecursion as All};
+ghost use Rattle.std.specs.List.{AllByRecursion};
 ghost use Rattle.kinds.specs.Kind.{Lawful};
 ghost use Rattle.locks.specs.Encoding.{GateFor};
 ghost use Rattle.locks.specs.Model.{gate_of};
@@ -52,7 +52,7 @@ fn plus_constant<K: ElementKind>(branch: Branch, x: K, constant: &[u8]) -> K
 fn plain_value<K: ElementKind>(work: &[u8], own: usize, gate: GateRecord<'_>) -> K
     requires fit { GateFor K.kind own (gate_of gate) }
     requires within { own * K.kind.width ≤ length work.now }
-    requires lawful { All (Lawful K.kind) (wires_in K.kind own work.now) }
+    requires lawful { AllByRecursion (Lawful K.kind) (wires_in K.kind own work.now) }
     ensures { K.ElementKind.row result ≡ value (ops_of K.kind) (wires_in K.kind own work.now) (gate_of gate.entry) }
 {
     match gate {
@@ -73,7 +73,7 @@ fn plain_value<K: ElementKind>(work: &[u8], own: usize, gate: GateRecord<'_>) ->
 pub fn plain_gate<K: ElementKind>(work: &mut [u8], own: usize, gate: GateRecord<'_>)
     requires fit { GateFor K.kind own (gate_of gate) }
     requires within { suc own * K.kind.width ≤ length work.old }
-    requires lawful { All (Lawful K.kind) (wires_in K.kind own work.old) }
+    requires lawful { AllByRecursion (Lawful K.kind) (wires_in K.kind own work.old) }
     ensures { wires_in K.kind (suc own) work.new ≡ wires_in K.kind own work.old ++ (value (ops_of K.kind) (wires_in K.kind own work.old) (gate_of gate.entry) ∷ []) }
 {
     let x: K = plain_value(work, own, gate);
@@ -92,8 +92,8 @@ pub fn right_product<K: ElementKind>(
     requires fit { GateFor K.kind own (gate_of gate) }
     requires within { own * K.kind.width ≤ length work.now }
     requires nextwithin { own * K.kind.width ≤ length next_work.now }
-    requires lawful { All (Lawful K.kind) (wires_in K.kind own work.now) }
-    requires nextlawful { All (Lawful K.kind) (wires_in K.kind own next_work.now) }
+    requires lawful { AllByRecursion (Lawful K.kind) (wires_in K.kind own work.now) }
+    requires nextlawful { AllByRecursion (Lawful K.kind) (wires_in K.kind own next_work.now) }
     ensures { K.ElementKind.row result ≡ right (ops_of K.kind) (gate_of gate.entry) (wires_in K.kind own work.now) (K.ElementKind.row mask ∷ []) (wires_in K.kind own next_work.now) (K.ElementKind.row next_mask ∷ []) }
 {
     let GateRecord::Multiply { left, right } = gate else {
@@ -119,7 +119,7 @@ fn branch_value<K: ElementKind>(
 ) -> K
     requires fit { GateFor K.kind own (gate_of gate) }
     requires within { own * K.kind.width ≤ length work.now }
-    requires lawful { All (Lawful K.kind) (wires_in K.kind own work.now) }
+    requires lawful { AllByRecursion (Lawful K.kind) (wires_in K.kind own work.now) }
     ensures { K.ElementKind.row result ≡ local (ops_of K.kind) (the_branch branch) (wires_in K.kind own work.now) (K.ElementKind.row product) (gate_of gate.entry) }
 {
     match gate {
@@ -146,7 +146,7 @@ pub fn branch_gate<K: ElementKind>(
 )
     requires fit { GateFor K.kind own (gate_of gate) }
     requires within { suc own * K.kind.width ≤ length work.old }
-    requires lawful { All (Lawful K.kind) (wires_in K.kind own work.old) }
+    requires lawful { AllByRecursion (Lawful K.kind) (wires_in K.kind own work.old) }
     ensures { wires_in K.kind (suc own) work.new ≡ wires_in K.kind own work.old ++ (local (ops_of K.kind) (the_branch branch) (wires_in K.kind own work.old) (K.ElementKind.row product) (gate_of gate.entry) ∷ []) }
 {
     let x: K = branch_value(branch, work, own, gate, product);

@@ -1,6 +1,6 @@
 // Elements of a group (a key, shares, masks, products, output shares), in the one layout that groups have in bytes.
 ghost use Rattle.std.specs.Prelude.{◌≡◌, ◌+◌, ◌*◌, ◌^◌, ◌<◌, ◌≤◌, length, drop, slice_set};
-ghost use Rattle.std.specs.List.{AllByRecursion as All};
+ghost use Rattle.std.specs.List.{AllByRecursion};
 ghost use Rattle.kinds.specs.Kind.{Lawful};
 ghost use Rattle.kinds.specs.Groups.{group_length};
 ghost use Rattle.theory.specs.Algebra.{ops_of};
@@ -34,7 +34,7 @@ pub fn element_at<K: ElementKind>(i: usize) -> usize
 pub fn element<K: ElementKind>(bytes: &[u8], n: usize, i: usize) -> K
     requires below { i < n }
     requires within { group_length K.kind n ≤ length bytes.now }
-    requires lawful { All (Lawful K.kind) (group K.kind n bytes.now) }
+    requires lawful { AllByRecursion (Lawful K.kind) (group K.kind n bytes.now) }
     ensures { K.ElementKind.row result ≡ read (ops_of K.kind) (group K.kind n bytes.now) i }
 {
     row_of(bytes, element_at::<K>(i))
@@ -93,7 +93,7 @@ pub fn lawful_group<K: ElementKind>(
 pub fn wires_from_group<K: ElementKind>(bytes: &[u8], n: usize, work: &mut [u8])
     requires within { group_length K.kind n ≤ length bytes.now }
     requires room { n * K.kind.width ≤ length work.old }
-    requires lawful { All (Lawful K.kind) (group K.kind n bytes.now) }
+    requires lawful { AllByRecursion (Lawful K.kind) (group K.kind n bytes.now) }
     ensures { wires_in K.kind n work.new ≡ group K.kind n bytes.now }
 {
     for i in 0..n {

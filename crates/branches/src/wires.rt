@@ -1,6 +1,6 @@
 // The wires of a branch in its work space: read, and added to.
 ghost use Rattle.std.specs.Prelude.{◌≡◌, suc, ◌*◌, ◌<◌, ◌≤◌, [], ◌∷◌, ◌++◌, length};
-ghost use Rattle.std.specs.List.{AllByRecursion as All};
+ghost use Rattle.std.specs.List.{AllByRecursion};
 ghost use Rattle.kinds.specs.Kind.{Lawful};
 ghost use Rattle.theory.specs.Algebra.{ops_of};
 ghost use Rattle.theory.specs.Runs.{read};
@@ -13,7 +13,7 @@ use kinds::kind::ElementKind;
 pub fn wire<K: ElementKind>(work: &[u8], own: usize, a: usize) -> K
     requires below { a < own }
     requires within { own * K.kind.width ≤ length work.now }
-    requires lawful { All (Lawful K.kind) (wires_in K.kind own work.now) }
+    requires lawful { AllByRecursion (Lawful K.kind) (wires_in K.kind own work.now) }
     ensures { K.ElementKind.row result ≡ read (ops_of K.kind) (wires_in K.kind own work.now) a }
 {
     row_of(work, a * K::row_length())

@@ -1,6 +1,6 @@
 -- How an extraction ends, by the first test that fails.
 use Rattle.std.proofs.Common.{◌≡◌, ℕ, ◌+◌, ◌≤◌, eqb, List, length, get_or, IfOk, Ok, Err, Result, sym, refl, ap, ◌∙◌, subst, arith}
-use Rattle.std.specs.List.{AllByRecursion as All}
+use Rattle.std.specs.List.{AllByRecursion}
 use Rattle.faults.specs.declared.Fault.{Fault}
 use Rattle.faults.specs.declared.Reason.{Reason}
 use Rattle.faults.specs.Numbers.{fault}
@@ -109,7 +109,7 @@ module _ (K : Kind) (S : Sealing) (lock fm : List ℕ) (an : Branch → List ℕ
 
 -- the shares in the picked view of an answer that the verifier takes are lawful
 pub shares_lawful : (K : Kind) (S : Sealing) (l : Circuit (List ℕ)) (fm : List ℕ) (e : Branch) (an : List ℕ) → messages_right K S l fm e an ≡ Ok tt
-    → All (Lawful K) (view_of K l (picked_view K l an)).1.wires
+    → AllByRecursion (Lawful K) (view_of K l (picked_view K l an)).1.wires
 shares_lawful K S l fm e an h =
     let A : View (List ℕ) = (view_of K l (picked_view K l an)).1 in
     let B : View (List ℕ) = (view_of K l (next_view K l an)).1 in

@@ -1,6 +1,6 @@
 -- Three answers as the code holds them.
 use Rattle.std.specs.Prelude.{◌≡◌, ℕ, List, length}
-use Rattle.std.specs.List.{AllByRecursion as All}
+use Rattle.std.specs.List.{AllByRecursion}
 use Rattle.kinds.specs.Kind.{Kind, Lawful}
 use Rattle.locks.specs.declared.lock.Lock.{Lock}
 use Rattle.locks.specs.Lengths.{answer_length}
@@ -25,9 +25,9 @@ abbrev pub shares_first : Kind → Lock → List ℕ → List (List ℕ)
 shares_first K l an = (view_of K (circuit_of K l) (picked_view K (circuit_of K l) an)).1.wires
 
 pub record SharesLawful (K : Kind) (l : Lock) (a : Answers) : Type 0 where
-  pub one_lawful : All (Lawful K) (shares_first K l a.one.now)
-  pub two_lawful : All (Lawful K) (shares_first K l a.two.now)
-  pub three_lawful : All (Lawful K) (shares_first K l a.three.now)
+  pub one_lawful : AllByRecursion (Lawful K) (shares_first K l a.one.now)
+  pub two_lawful : AllByRecursion (Lawful K) (shares_first K l a.two.now)
+  pub three_lawful : AllByRecursion (Lawful K) (shares_first K l a.three.now)
 
 -- the key buffer: written where the outcome is a key
 abbrev pub key_written : Extracted → (written old : List ℕ) → List ℕ

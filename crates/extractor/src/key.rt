@@ -1,6 +1,6 @@
 // The key from the shares of three branches.
 ghost use Rattle.std.specs.Prelude.{◌≡◌, ◌≤◌, length};
-ghost use Rattle.std.specs.List.{AllByRecursion as All};
+ghost use Rattle.std.specs.List.{AllByRecursion};
 ghost use Rattle.kinds.specs.Kind.{Lawful};
 ghost use Rattle.kinds.specs.Groups.{group_length};
 ghost use Rattle.theory.specs.Groups.{group, group_bytes};
@@ -17,9 +17,9 @@ pub(crate) fn write_key<K: ElementKind>(
     n: usize,
     key: &mut [u8],
 )
-    requires first { (group_length K.kind n ≤ length first.now) × (All (Lawful K.kind) (group K.kind n first.now)) }
-    requires second { (group_length K.kind n ≤ length second.now) × (All (Lawful K.kind) (group K.kind n second.now)) }
-    requires third { (group_length K.kind n ≤ length third.now) × (All (Lawful K.kind) (group K.kind n third.now)) }
+    requires first { (group_length K.kind n ≤ length first.now) × (AllByRecursion (Lawful K.kind) (group K.kind n first.now)) }
+    requires second { (group_length K.kind n ≤ length second.now) × (AllByRecursion (Lawful K.kind) (group K.kind n second.now)) }
+    requires third { (group_length K.kind n ≤ length third.now) × (AllByRecursion (Lawful K.kind) (group K.kind n third.now)) }
     requires sized { length key.old ≡ group_length K.kind n }
     ensures { key.new ≡ group_bytes K.kind (sums_in K.kind n first.now second.now third.now) }
 {

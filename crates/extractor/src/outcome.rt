@@ -1,6 +1,6 @@
 // What three answers that the verifier accepts give.
 ghost use Rattle.std.specs.Prelude.{◌≡◌, ◌≤◌, length};
-ghost use Rattle.std.specs.List.{AllByRecursion as All};
+ghost use Rattle.std.specs.List.{AllByRecursion};
 ghost use Rattle.kinds.specs.Kind.{Lawful};
 ghost use Rattle.locks.specs.Lengths.{key_length, answer_length};
 ghost use Rattle.theory.specs.Groups.{group_bytes};

@@ -1,6 +1,6 @@
 -- The tests of a promise: what they tell where they pass.
 use Rattle.std.proofs.Common.{◌≡◌, ℕ, suc, ◌+◌, ◌*◌, ◌<◌, ◌≤◌, Bool, true, false, eqb, ltb, leb, List, [], ◌∷◌, ◌++◌, length, take, Ok, Err, Result, sym, refl, ap, ◌∙◌, subst, arith, length-take-le, ltb-true, eq-eqb, eqb-true, leb-true}
-use Rattle.std.specs.List.{AllByRecursion as All}
+use Rattle.std.specs.List.{AllByRecursion}
 use Rattle.faults.specs.declared.Fault.{Fault}
 use Rattle.faults.specs.declared.Reason.{Reason}
 use Rattle.faults.specs.Numbers.{fault}
@@ -60,11 +60,11 @@ fitting K S k g m M n h =
     }
 
 pub record TapeLawful (K : Kind) (k m : ℕ) (t : Tape) : Type 0 where
-  pub share1 : All (Lawful K) (group K k t.share1.now)
-  pub share2 : All (Lawful K) (group K k t.share2.now)
-  pub mask1 : All (Lawful K) (group K m t.mask1.now)
-  pub mask2 : All (Lawful K) (group K m t.mask2.now)
-  pub mask3 : All (Lawful K) (group K m t.mask3.now)
+  pub share1 : AllByRecursion (Lawful K) (group K k t.share1.now)
+  pub share2 : AllByRecursion (Lawful K) (group K k t.share2.now)
+  pub mask1 : AllByRecursion (Lawful K) (group K m t.mask1.now)
+  pub mask2 : AllByRecursion (Lawful K) (group K m t.mask2.now)
+  pub mask3 : AllByRecursion (Lawful K) (group K m t.mask3.now)
 
 pub tape_lawful : (K : Kind) (k m : ℕ) (t : Tape) → parts_right K k m t ≡ Ok tt → TapeLawful K k m t
 tape_lawful K k m t h =
@@ -88,7 +88,7 @@ module _ (K : Kind) (S : Sealing) (lock : Lock) (L : ℕ) (key tape : List ℕ) 
   pub ready_fits : Fitting K S lock.inputs lock.gates lock.outputs lock.products (lengths_of (length key) (length tape) w1 w2 w3 first)
   ready_fits = fitting K S lock.inputs lock.gates lock.outputs lock.products (lengths_of (length key) (length tape) w1 w2 w3 first) r.sized
 
-  pub ready_key : All (Lawful K) (group K lock.inputs key)
+  pub ready_key : AllByRecursion (Lawful K) (group K lock.inputs key)
   ready_key =
       let l = circuit_of K lock in
       let passed = both_ok (key_right K l (key_of K l key)) (tape_right K l (tape_of K l tape)) r.right in

@@ -2,7 +2,7 @@
 -- A ring-like structure: an additive group whose product distributes over the sum on both sides.
 -- Nothing is said of commuting or associating products.
 use Rattle.std.specs.Prelude.{◌≡◌, ℕ, ◌<◌, ◌≤◌, Bool, true, false, cond, List, [], ◌∷◌, length, ◌==◌}
-use Rattle.std.specs.List.{AllByRecursion as All}
+use Rattle.std.specs.List.{AllByRecursion}
 
 -- an element is told by its row, a list of `width` bytes; a row that belongs to no element is unlawful
 pub record Kind : Type 0 where
@@ -19,7 +19,7 @@ Lawful k x = k.lawful x ≡ true
 
 -- bytes as a list of numbers
 abbrev pub Bytes : List ℕ → Type 0
-Bytes xs = All (λ b. b < 256) xs
+Bytes xs = AllByRecursion (λ b. b < 256) xs
 
 -- what each kind proves, of lawful rows only
 pub record Laws (k : Kind) : Type 0 where

@@ -1,6 +1,6 @@
 -- A lock that is refused: what stands before the broken rule, and the rule.
 use Rattle.std.proofs.Common.{◌≡◌, ℕ, zero, suc, ◌+◌, ◌<◌, ◌≤◌, Bool, true, false, ◌&&◌, eqb, leb, List, [], ◌∷◌, ◌++◌, length, get_or, take, drop, Ok, Err, sym, refl, ap, ◌∙◌, subst, inl, inr, ⊎_elim, append_assoc, add-zero, arith, length-append, length-drop}
-use Rattle.std.specs.List.{flat_map, AllByRecursion as All}
+use Rattle.std.specs.List.{flat_map, AllByRecursion}
 use Rattle.std.proofs.lemmas.List.{take-append-drop}
 use Rattle.std.proofs.lemmas.Bool.{eqb-true, eqb-false, leb-true, leb-false, and_parts, and_from, eq-eqb, false≢true}
 use Rattle.faults.specs.declared.Reason.{Reason}
@@ -46,7 +46,7 @@ module _ (K : Kind) where
     before : List (Output (List ℕ))
     rest : List ℕ
     fewer : length before < n
-    for : All (OutputFor K wires) before
+    for : AllByRecursion (OutputFor K wires) before
     spelled : flat_map output_bytes before ++ rest ≡ xs
     broken : OutputBroken K wires (at + length (flat_map output_bytes before)) rest f
 

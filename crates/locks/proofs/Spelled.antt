@@ -1,6 +1,6 @@
 -- What was read is well-formed, and its encoding is what was read.
 use Rattle.std.proofs.Common.{◌≡◌, ℕ, zero, suc, ◌+◌, ◌<◌, ◌≤◌, true, leb, List, [], ◌∷◌, ◌++◌, length, get_or, take, drop, Some, None, Ok, Option, sym, refl, ap, ◌∙◌, subst, append_assoc, append-nil, add-zero, arith, length-drop, drop-drop}
-use Rattle.std.specs.List.{flat_map, AllByRecursion as All}
+use Rattle.std.specs.List.{flat_map, AllByRecursion}
 use Rattle.std.proofs.lemmas.List.{nil_from_length}
 use Rattle.std.proofs.lemmas.Bool.{eqb-true, ltb-true, leb-true, and_parts}
 use Rattle.faults.specs.Outcomes.{and_then, map_ok}
@@ -178,7 +178,7 @@ module _ (K : Kind) where
 
   pub record OutputsStand (n wires at : ℕ) (xs : List ℕ) (U : Records (Output (List ℕ))) : Type 0 where
     pub count : length U.items ≡ n
-    pub for : All (OutputFor K wires) U.items
+    pub for : AllByRecursion (OutputFor K wires) U.items
     pub spelled : Bytes xs → flat_map output_bytes U.items ++ U.rest ≡ xs
     pub walked : outputs_in K n at xs ≡ Ok U
 
@@ -301,7 +301,7 @@ module _ (K : Kind) where
       some_outputs = subst (λ j. 1 ≤ j) (sym u.count) h.some_outputs;
       few_outputs = subst (λ j. j ≤ most_outputs) (sym u.count) h.few_outputs;
       gates_for = g.for;
-      outputs_for = subst (λ j. All (OutputFor K (n.inputs + j)) U.items) (sym g.count) u.for;
+      outputs_for = subst (λ j. AllByRecursion (OutputFor K (n.inputs + j)) U.items) (sym g.count) u.for;
       short_view =
           let z : 0 + mus G.items ≡ mus G.items = omega arith in
           subst (λ j. view_length K n.inputs j ≤ longest_view) z (g.within (view_starts K n.inputs narrow h.few_inputs));

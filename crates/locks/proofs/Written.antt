@@ -1,6 +1,6 @@
 -- The encoding of a well-formed circuit is read as that circuit.
 use Rattle.std.proofs.Common.{◌≡◌, ℕ, suc, ◌+◌, ◌<◌, ◌≤◌, Bool, true, ◌&&◌, eqb, leb, List, [], ◌∷◌, ◌++◌, length, take, drop, Ok, Result, sym, refl, ap, ◌∙◌, subst, append_assoc, append-nil, arith, length-append, take_at, drop_at}
-use Rattle.std.specs.List.{flat_map, AllByRecursion as All}
+use Rattle.std.specs.List.{flat_map, AllByRecursion}
 use Rattle.std.proofs.lemmas.Bool.{eq-eqb, lt-ltb, le-leb, and_from}
 use Rattle.faults.specs.declared.Reason.{Reason}
 use Rattle.faults.specs.declared.Fault.{Fault}
@@ -131,7 +131,7 @@ module _ (K : Kind) (sized : (x : List ℕ) → Lawful K x → length x ≡ K.wi
   WrittenOutputs : List (Output (List ℕ)) → (wires at : ℕ) → List ℕ → Type 0
   WrittenOutputs us wires at ys = (e : ℕ) × (outputs_from K (length us) wires at (flat_map output_bytes us ++ ys) ≡ Ok (record { items = us; rest = ys; end = e }))
 
-  outputs_written : (us : List (Output (List ℕ))) (wires at : ℕ) → wires ≤ 4294967296 → All (OutputFor K wires) us → (ys : List ℕ) → WrittenOutputs us wires at ys
+  outputs_written : (us : List (Output (List ℕ))) (wires at : ℕ) → wires ≤ 4294967296 → AllByRecursion (OutputFor K wires) us → (ys : List ℕ) → WrittenOutputs us wires at ys
   unfolding outputs_from WrittenOutputs
   outputs_written [] wires at most f ys = (at, refl)
   outputs_written (u ∷ us) wires at most f ys =

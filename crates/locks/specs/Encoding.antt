@@ -1,6 +1,6 @@
 -- A circuit as bytes, which circuits are well-formed, and what reading has to do with them.
 use Rattle.std.specs.Prelude.{◌≡◌, ℕ, suc, ◌+◌, ◌<◌, ◌≤◌, List, [], ◌∷◌, ◌++◌, length, Ok}
-use Rattle.std.specs.List.{flat_map, AllByRecursion as All}
+use Rattle.std.specs.List.{flat_map, AllByRecursion}
 use Rattle.kinds.specs.Kind.{Kind, Laws, Lawful, Bytes}
 use Rattle.kinds.specs.Numbers.{four_bytes}
 use Rattle.locks.specs.Circuit.{Gate, ac, mc, ad, mu, Output, Circuit, mus}
@@ -45,7 +45,7 @@ module _ (K : Kind) where
     pub some_outputs : 1 ≤ length l.outputs
     pub few_outputs : length l.outputs ≤ most_outputs
     pub gates_for : GatesFor l.inputs l.gates
-    pub outputs_for : All (OutputFor (l.inputs + length l.gates)) l.outputs
+    pub outputs_for : AllByRecursion (OutputFor (l.inputs + length l.gates)) l.outputs
     pub short_view : view_length K l.inputs (mus l.gates) ≤ longest_view
 
   -- bytes are read as a circuit exactly when they are the encoding of it, and it is well-formed

@@ -1,6 +1,6 @@
 -- Why bytes are refused, told by the encoding and not by the reader: all that stands before the broken rule is well-formed.
 use Rattle.std.specs.Prelude.{◌≡◌, ℕ, ◌+◌, ◌<◌, ◌≤◌, false, ◌⊎◌, List, [], ◌∷◌, ◌++◌, length, take, Err, ◌≢◌}
-use Rattle.std.specs.List.{flat_map, AllByRecursion as All}
+use Rattle.std.specs.List.{flat_map, AllByRecursion}
 use Rattle.faults.specs.declared.Reason.{Reason}
 use Rattle.faults.specs.declared.Fault.{Fault}
 use Rattle.faults.specs.Numbers.{fault}
@@ -104,7 +104,7 @@ module _ (K : Kind) where
         → header_bytes K.number n ++ (flat_map gate_bytes gs ++ xs) ≡ bs
         → GateBroken K n.inputs (n.inputs + length gs) (mus gs) (15 + length (flat_map gate_bytes gs)) xs f → Refused bs f
     in_output : (f : Fault) (n : Counts) (gs : List (Gate (List ℕ))) (us : List (Output (List ℕ))) (xs : List ℕ) → HeaderRight n → length gs ≡ n.gates
-        → GatesFor K n.inputs gs → length us < n.outputs → All (OutputFor K (n.inputs + n.gates)) us
+        → GatesFor K n.inputs gs → length us < n.outputs → AllByRecursion (OutputFor K (n.inputs + n.gates)) us
         → header_bytes K.number n ++ (flat_map gate_bytes gs ++ (flat_map output_bytes us ++ xs)) ≡ bs
         → OutputBroken K (n.inputs + n.gates) (15 + length (flat_map gate_bytes gs) + length (flat_map output_bytes us)) xs f → Refused bs f
     behind : (l : Circuit (List ℕ)) (x : ℕ) (xs : List ℕ) → WellFormed K l → encoded K l ++ (x ∷ xs) ≡ bs → Refused bs (fault Reason.TrailingBytes (length (encoded K l)))

@@ -1,6 +1,6 @@
 -- Words written one after the other, and what their bytes are.
 use Rattle.std.proofs.Common.{◌≡◌, ℕ, suc, ◌+◌, ◌-◌, ◌*◌, ◌<◌, ◌≤◌, List, [], ◌∷◌, ◌++◌, length, get_or, take, drop, set, replicate, refl, ap, ◌∙◌, mul-le-mul_left, mul-zero, zero-add, mul-one, mul-suc, mul-add, arith}
-use Rattle.std.specs.List.{flat_map, AllByRecursion as All}
+use Rattle.std.specs.List.{flat_map, AllByRecursion}
 use Rattle.std.proofs.ByRecursion.{All-append}
 use Rattle.std.proofs.lemmas.List.{append_assoc, length-append, length-take-le, take_at, take_more, take_all, flat_map_more, set_at, drop-replicate}
 use Rattle.parts.specs.Blocks.{written}
@@ -40,7 +40,7 @@ module _ (bytes : ℕ → List ℕ) (size : ℕ) (sized : (x : ℕ) → length (
       let b = take_all i s (omega arith) in
       cc
 
-pub all_joined : (P : ℕ → Type 0) (bytes : ℕ → List ℕ) → ((x : ℕ) → All P (bytes x)) → (xs : List ℕ) → All P (flat_map bytes xs)
+pub all_joined : (P : ℕ → Type 0) (bytes : ℕ → List ℕ) → ((x : ℕ) → AllByRecursion P (bytes x)) → (xs : List ℕ) → AllByRecursion P (flat_map bytes xs)
 all_joined P bytes each [] = tt
 all_joined P bytes each (x ∷ xs) = All-append P (bytes x) (flat_map bytes xs) (each x) (all_joined P bytes each xs)
 

@@ -1,6 +1,6 @@
 -- The third branch's shares, read where they were written.
 use Rattle.std.proofs.Common.{◌≡◌, ℕ, suc, ◌+◌, ◌-◌, ◌*◌, ◌≤◌, List, [], ◌∷◌, ◌++◌, length, take, drop, sym, refl, ap, ◌∙◌, subst, ap₂, append_assoc, arith, drop-drop, take_at, drop_at}
-use Rattle.std.specs.List.{between, AllByRecursion as All}
+use Rattle.std.specs.List.{between, AllByRecursion}
 use Rattle.kinds.specs.Kind.{Kind, Laws, Lawful}
 use Rattle.kinds.specs.Groups.{group_length}
 use Rattle.locks.proofs.Steps.{to_end}
@@ -21,16 +21,16 @@ less_long K [] w h = refl
 less_long K (x ∷ u) [] h = suc≢zero h
 less_long K (x ∷ u) (y ∷ w) h = ap suc (less_long K u w (suc_same h))
 
-pub less_lawful : (K : Kind) → Laws K → (u w : List (List ℕ)) → All (Lawful K) u → All (Lawful K) w → All (Lawful K) (less (ops_of K) u w)
+pub less_lawful : (K : Kind) → Laws K → (u w : List (List ℕ)) → AllByRecursion (Lawful K) u → AllByRecursion (Lawful K) w → AllByRecursion (Lawful K) (less (ops_of K) u w)
 less_lawful K laws [] w h k = tt
 less_lawful K laws (x ∷ u) [] h k = tt
 less_lawful K laws (x ∷ u) (y ∷ w) h k = (laws.add_lawful x (K.neg y) h.0 (laws.neg_lawful y k.0), less_lawful K laws u w h.1 k.1)
 
-module _ (K : Kind) (laws : Laws K) (k : ℕ) (key s t : List ℕ) (a : All (Lawful K) (group K k key)) (b : All (Lawful K) (group K k s)) (c : All (Lawful K) (group K k t)) where
+module _ (K : Kind) (laws : Laws K) (k : ℕ) (key s t : List ℕ) (a : AllByRecursion (Lawful K) (group K k key)) (b : AllByRecursion (Lawful K) (group K k s)) (c : AllByRecursion (Lawful K) (group K k t)) where
   abbrev T : List (List ℕ)
   T = less (ops_of K) (less (ops_of K) (group K k key) (group K k s)) (group K k t)
 
-  pub third_lawful : All (Lawful K) T
+  pub third_lawful : AllByRecursion (Lawful K) T
   third_lawful = less_lawful K laws _ _ (less_lawful K laws _ _ a b) c
 
   pub third_long : length T ≡ k

@@ -1,6 +1,6 @@
 -- Three branches run together, a gate at a time.
 use Rattle.std.proofs.Common.{◌≡◌, ℕ, zero, suc, ◌+◌, ◌-◌, ◌*◌, ◌<◌, ◌≤◌, true, List, [], ◌∷◌, ◌++◌, length, get_or, take, drop, is_ok, Ok, sym, refl, ap, ◌∙◌, subst, append_assoc, append-nil, add-zero, mul-le-mul_right, mul-le-mul_left, add-one, arith, take_all}
-use Rattle.std.specs.List.{AllByRecursion as All}
+use Rattle.std.specs.List.{AllByRecursion}
 use Rattle.kinds.specs.Kind.{Kind, Laws, Lawful}
 use Rattle.locks.specs.Circuit.{Gate, ac, mc, ad, mu, mus}
 use Rattle.locks.specs.Encoding.{GateFor}
@@ -54,7 +54,7 @@ due_is K (mu a b) W R q i =
     let n = sym (head_drop K (R (next i)) q) in
     λ x. share (ops_of K) (read (ops_of K) (W i) a) (read (ops_of K) (W i) b) (read (ops_of K) (W (next i)) a) (read (ops_of K) (W (next i)) b) (m x) (n x)
 
-due_lawful : (K : Kind) → Laws K → (g : Gate (List ℕ)) (W R : Branch → List (List ℕ)) (q : ℕ) → ((i : Branch) → All (Lawful K) (W i)) → ((i : Branch) → All (Lawful K) (R i))
+due_lawful : (K : Kind) → Laws K → (g : Gate (List ℕ)) (W R : Branch → List (List ℕ)) (q : ℕ) → ((i : Branch) → AllByRecursion (Lawful K) (W i)) → ((i : Branch) → AllByRecursion (Lawful K) (R i))
     → (i : Branch) → Lawful K (due_at K W R q g i)
 due_lawful K laws (ac _ _) W R q l m i = laws.zero_lawful
 due_lawful K laws (mc _ _) W R q l m i = laws.zero_lawful
@@ -74,7 +74,7 @@ constant_lawful K laws one x c h k = laws.add_lawful x c h k
 constant_lawful K laws two x c h k = h
 constant_lawful K laws three x c h k = h
 
-local_lawful : (K : Kind) → Laws K → (i : Branch) (ws : List (List ℕ)) (p : List ℕ) (own : ℕ) (g : Gate (List ℕ)) → GateFor K own g → All (Lawful K) ws → Lawful K p → Lawful K (local (ops_of K) i ws p g)
+local_lawful : (K : Kind) → Laws K → (i : Branch) (ws : List (List ℕ)) (p : List ℕ) (own : ℕ) (g : Gate (List ℕ)) → GateFor K own g → AllByRecursion (Lawful K) ws → Lawful K p → Lawful K (local (ops_of K) i ws p g)
 local_lawful K laws i ws p own (ac a c) f l h = constant_lawful K laws i _ c (read_lawful K laws ws a l) f.1
 local_lawful K laws i ws p own (mc a c) f l h = laws.mul_lawful c _ f.1 (read_lawful K laws ws a l)
 local_lawful K laws i ws p own (ad a b) f l h = laws.add_lawful _ _ (read_lawful K laws ws a l) (read_lawful K laws ws b l)
@@ -119,7 +119,7 @@ left_of q R i = drop q (R i)
 -- what is left gives the whole: k inputs, n gates left of which the first writes wire `own`, q products in place
 pub record Trio (K : Kind) (n own : ℕ) (s : Standing) (a b c P : List ℕ) (R : Branch → List (List ℕ)) (L at M q : ℕ) (whole H : Branch → List (List ℕ)) (F : Branch → List ℕ) : Type 0 where
   pub stand : GatesStand K n own s
-  pub lawful : (i : Branch) → All (Lawful K) (wires_on K own a b c i)
+  pub lawful : (i : Branch) → AllByRecursion (Lawful K) (wires_on K own a b c i)
   pub runs : (i : Branch) → rerun (ops_of K) i (gates_at K n s) (honest_view K (gates_at K n s) (wires_on K own a b c) (left_of q R) i) ≡ whole i
   pub filled : (i : Branch) → take q (products_in K L at M P i) ++ honest (ops_of K) (gates_at K n s) (wires_on K own a b c) (left_of q R) i ≡ H i
   pub kept : (i : Branch) → front_in L at P i ≡ F i
@@ -134,7 +134,7 @@ pub record Turn (K : Kind) (own : ℕ) (g : Gate (List ℕ)) (a b c a' b' c' P P
   pub put : (i : Branch) → products_in K L at M P' i ≡ put_product g q (due_at K (wires_on K own a b c) R q g i) (products_in K L at M P i)
 
 module _ (K : Kind) (laws : Laws K) (n own : ℕ) (s : Standing) (a b c a' b' c' P P' : List ℕ) (R : Branch → List (List ℕ)) (L at M q : ℕ) (whole H : Branch → List (List ℕ)) (F : Branch → List ℕ)
-    (masked : (i : Branch) → All (Lawful K) (R i)) (l : Trio K (suc n) own s a b c P R L at M q whole H F)
+    (masked : (i : Branch) → AllByRecursion (Lawful K) (R i)) (l : Trio K (suc n) own s a b c P R L at M q whole H F)
     (g : Gate (List ℕ)) (is : gate_in K s.at s.rest ≡ Ok g) (t : Turn K own g a b c a' b' c' P P' R L at M q) where
   abbrev s' : Standing
   s' = behind (gate_size K g) s
@@ -168,9 +168,9 @@ module _ (K : Kind) (laws : Laws K) (n own : ℕ) (s : Standing) (a b c a' b' c'
   shrunk : (i : Branch) → left_of (q + has g) R i ≡ rest g (left_of q R i)
   shrunk i = rest_drop g (R i) q
 
-  wires_ok : (i : Branch) → All (Lawful K) (W' i)
+  wires_ok : (i : Branch) → AllByRecursion (Lawful K) (W' i)
   wires_ok i =
-      subst (All (Lawful K)) (sym (by_due i))
+      subst (AllByRecursion (Lawful K)) (sym (by_due i))
       (all_snoc (Lawful K) (W i) (local (ops_of K) i (W i) (due i) g) (l.lawful i)
       (local_lawful K laws i (W i) (due i) own g (gate_for K n own s l.stand g is) (l.lawful i) (due_lawful K laws g W R q l.lawful masked i)))
 
@@ -214,7 +214,7 @@ module _ (K : Kind) (own : ℕ) (s : Standing) (a b c P : List ℕ) (R : Branch 
 
 -- the loop's start, its turns and its end
 module _ (K : Kind) (k count : ℕ) (s : Standing) (a b c P : List ℕ) (R : Branch → List (List ℕ)) (L at M : ℕ)
-    (stand : GatesStand K count k s) (la : All (Lawful K) (wires_in K k a)) (lb : All (Lawful K) (wires_in K k b)) (lc : All (Lawful K) (wires_in K k c)) (some : mus (gates_at K count s) ≡ M) where
+    (stand : GatesStand K count k s) (la : AllByRecursion (Lawful K) (wires_in K k a)) (lb : AllByRecursion (Lawful K) (wires_in K k b)) (lc : AllByRecursion (Lawful K) (wires_in K k c)) (some : mus (gates_at K count s) ≡ M) where
   abbrev gs0 : List (Gate (List ℕ))
   gs0 = gates_at K count s
 
@@ -224,7 +224,7 @@ module _ (K : Kind) (k count : ℕ) (s : Standing) (a b c P : List ℕ) (R : Bra
   abbrev whole0 : Branch → List (List ℕ)
   whole0 i = rerun (ops_of K) i gs0 (honest_view K gs0 W0 R i)
 
-  each : (i : Branch) → All (Lawful K) (wires_on K k a b c i)
+  each : (i : Branch) → AllByRecursion (Lawful K) (wires_on K k a b c i)
   each one = la
   each two = lb
   each three = lc
@@ -259,7 +259,7 @@ module _ (K : Kind) (laws : Laws K) (k count j : ℕ) (s : Standing) (a b c P : 
         let rest = gates_at K (count - (j + 1)) (behind (gate_size K g) s) in
         omega (arith, here.some, ap mus (gates_one K (count - (j + 1)) (k + j) s here.stand g is), mus_one g rest)
 
-    pub trio_next : (a' b' c' P' : List ℕ) (s' : Standing) (q' : ℕ) → ((i : Branch) → All (Lawful K) (R i)) → Turn K (k + j) g a b c a' b' c' P P' R L at M q
+    pub trio_next : (a' b' c' P' : List ℕ) (s' : Standing) (q' : ℕ) → ((i : Branch) → AllByRecursion (Lawful K) (R i)) → Turn K (k + j) g a b c a' b' c' P P' R L at M q
         → s' ≡ behind (gate_size K g) s → q' ≡ has g → Trio K (count - (j + 1)) (k + (j + 1)) s' a' b' c' P' R L at M (q + q') whole H F
     trio_next a' b' c' P' s' q' masked t es eq =
         let own : suc (k + j) ≡ k + (j + 1) = omega arith in

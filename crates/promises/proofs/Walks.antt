@@ -1,6 +1,6 @@
 -- A lock's records walked in a loop: gates on whole values, and outputs.
 use Rattle.std.proofs.Common.{◌≡◌, ℕ, zero, suc, ◌+◌, ◌-◌, ◌*◌, ◌<◌, ◌≤◌, Bool, true, false, cond, List, [], ◌∷◌, ◌++◌, length, is_ok, Some, None, Ok, Option, sym, refl, ap, ◌∙◌, subst, arith}
-use Rattle.std.specs.List.{AllByRecursion as All}
+use Rattle.std.specs.List.{AllByRecursion}
 use Rattle.kinds.specs.Kind.{Kind, Laws, Lawful, same_row}
 use Rattle.locks.specs.Circuit.{Gate, ac, mc, ad, mu, Output}
 use Rattle.locks.specs.Encoding.{GateFor, OutputFor}
@@ -17,7 +17,7 @@ use Rattle.faults.proofs.Passed.{err_ok}
 use Rattle.branches.proofs.RowLemmas.{all_snoc, read_lawful}
 use Rattle.branches.proofs.Walked.{gate_there, gates_one, gate_for, gates_left, gates_none, output_there, outputs_one, output_for, outputs_left, outputs_none}
 
-value_lawful : (K : Kind) → Laws K → (ws : List (List ℕ)) (own : ℕ) (g : Gate (List ℕ)) → GateFor K own g → All (Lawful K) ws → Lawful K (value (ops_of K) ws g)
+value_lawful : (K : Kind) → Laws K → (ws : List (List ℕ)) (own : ℕ) (g : Gate (List ℕ)) → GateFor K own g → AllByRecursion (Lawful K) ws → Lawful K (value (ops_of K) ws g)
 value_lawful K laws ws own (ac a c) f l = laws.add_lawful _ c (read_lawful K laws ws a l) f.1
 value_lawful K laws ws own (mc a c) f l = laws.mul_lawful c _ f.1 (read_lawful K laws ws a l)
 value_lawful K laws ws own (ad a b) f l = laws.add_lawful _ _ (read_lawful K laws ws a l) (read_lawful K laws ws b l)
@@ -26,10 +26,10 @@ value_lawful K laws ws own (mu a b) f l = laws.mul_lawful _ _ (read_lawful K law
 -- a plain run, of which n gates are left: what is left gives the whole
 pub record Plain (K : Kind) (n own : ℕ) (s : Standing) (work : List ℕ) (whole : List (List ℕ)) : Type 0 where
   pub stand : GatesStand K n own s
-  pub lawful : All (Lawful K) (wires_in K own work)
+  pub lawful : AllByRecursion (Lawful K) (wires_in K own work)
   pub runs : plain (ops_of K) (gates_at K n s) (wires_in K own work) ≡ whole
 
-pub plain_start : (K : Kind) (k count : ℕ) (s : Standing) (work : List ℕ) → GatesStand K count k s → All (Lawful K) (wires_in K k work)
+pub plain_start : (K : Kind) (k count : ℕ) (s : Standing) (work : List ℕ) → GatesStand K count k s → AllByRecursion (Lawful K) (wires_in K k work)
     → Plain K (count - 0) (k + 0) s work (plain (ops_of K) (gates_at K count s) (wires_in K k work))
 plain_start K k count s work st l =
     let n0 : count ≡ count - 0 = omega arith in
@@ -56,13 +56,13 @@ module _ (K : Kind) (laws : Laws K) (k count j : ℕ) (s : Standing) (work : Lis
         let own : suc (k + j) ≡ k + (j + 1) = omega arith in
         let stepped : Plain K (count - (j + 1)) (suc (k + j)) (behind (gate_size K g) s) work' whole = record {
           stand = gates_left K n (k + j) s here.stand g is;
-          lawful = subst (All (Lawful K)) (sym grown) (all_snoc (Lawful K) (wires_in K (k + j) work) (value (ops_of K) (wires_in K (k + j) work) g) l.lawful (value_lawful K laws (wires_in K (k + j) work) (k + j) g plain_for l.lawful));
+          lawful = subst (AllByRecursion (Lawful K)) (sym grown) (all_snoc (Lawful K) (wires_in K (k + j) work) (value (ops_of K) (wires_in K (k + j) work) g) l.lawful (value_lawful K laws (wires_in K (k + j) work) (k + j) g plain_for l.lawful));
           runs = ap (plain (ops_of K) (gates_at K n (behind (gate_size K g) s))) grown ∙ ap (λ (x : List (Gate (List ℕ))). plain (ops_of K) x (wires_in K (k + j) work)) (sym (gates_one K n (k + j) s here.stand g is)) ∙ here.runs;
         } in
         subst (λ (z : Standing). Plain K (count - (j + 1)) (k + (j + 1)) z work' whole) (sym es) (subst (λ (m : ℕ). Plain K (count - (j + 1)) m (behind (gate_size K g) s) work' whole) own stepped)
 
 pub plain_end : (K : Kind) (k count j : ℕ) (s : Standing) (work : List ℕ) (whole : List (List ℕ)) → j ≡ count → Plain K (count - j) (k + j) s work whole
-    → (wires_in K (k + count) work ≡ whole) × All (Lawful K) (wires_in K (k + count) work)
+    → (wires_in K (k + count) work ≡ whole) × AllByRecursion (Lawful K) (wires_in K (k + count) work)
 plain_end K k count j s work whole done l =
     let z : count - j ≡ 0 = omega arith in
     let e : Plain K 0 (k + count) s work whole = subst (λ (n : ℕ). Plain K n (k + count) s work whole) z (subst (λ (n : ℕ). Plain K (count - j) (k + n) s work whole) done l) in
@@ -122,10 +122,10 @@ seek_start K count wires s ws st =
     subst (λ (n : ℕ). Seeking K n wires s ws 0 (missed K ws (outputs_at K count s))) n0 (record { stand = st; left = from_zero (missed K ws (outputs_at K count s)) })
 
 -- elements that passed their test are lawful
-pub tested_lawful : (K : Kind) (xs : List (List ℕ)) (f : ℕ → Fault) → first_at (unlawful K xs) f ≡ Ok tt → All (Lawful K) xs
+pub tested_lawful : (K : Kind) (xs : List (List ℕ)) (f : ℕ → Fault) → first_at (unlawful K xs) f ≡ Ok tt → AllByRecursion (Lawful K) xs
 tested_lawful K xs f h = by (unlawful K xs) refl h
   where
-    by : (o : Option ℕ) → unlawful K xs ≡ o → first_at o f ≡ Ok tt → All (Lawful K) xs
+    by : (o : Option ℕ) → unlawful K xs ≡ o → first_at o f ≡ Ok tt → AllByRecursion (Lawful K) xs
     by None e k = all_lawful K xs e
     by (Some i) e k = err_ok k
 

@@ -1,6 +1,6 @@
 -- The first message from three work spaces and the views of a round.
 use Rattle.std.specs.Prelude.{ℕ, ◌*◌, ◌≤◌, List, ◌∷◌, ◌++◌, length, take, drop}
-use Rattle.std.specs.List.{AllByRecursion as All}
+use Rattle.std.specs.List.{AllByRecursion}
 use Rattle.kinds.specs.Kind.{Kind, Lawful}
 use Rattle.locks.specs.Circuit.{Output}
 use Rattle.theory.specs.Algebra.{ops_of}
@@ -14,7 +14,7 @@ use Rattle.branches.specs.Wires.{wires_in}
 -- all wires are in the work space, and lawful
 pub record Ready (K : Kind) (wires : ℕ) (work : List ℕ) : Type 0 where
   pub within : wires * K.width ≤ length work
-  pub lawful : All (Lawful K) (wires_in K wires work)
+  pub lawful : AllByRecursion (Lawful K) (wires_in K wires work)
 
 -- FM, and the output shares of three branches
 abbrev pub outs_on : Kind → List (Output (List ℕ)) → (W : Branch → List (List ℕ)) → List ℕ

@@ -1,6 +1,6 @@
 -- What a round's part of the store and its first message come to hold.
 use Rattle.std.specs.Prelude.{◌≡◌, ℕ, ◌+◌, List, ◌++◌, length}
-use Rattle.std.specs.List.{AllByRecursion as All}
+use Rattle.std.specs.List.{AllByRecursion}
 use Rattle.kinds.specs.Kind.{Kind, Lawful}
 use Rattle.kinds.specs.Groups.{group_length}
 use Rattle.locks.specs.declared.lock.Lock.{Lock}
@@ -21,13 +21,13 @@ use Rattle.promises.specs.Fronts.{third_of, fronts_of}
 pub record Accepted (K : Kind) (lock : Lock) (key : List ℕ) (t : Tape) (s : Shape) : Type 0 where
   pub stands : Stands K lock
   pub key_sized : length key ≡ group_length K lock.inputs
-  pub key_lawful : All (Lawful K) (group K lock.inputs key)
+  pub key_lawful : AllByRecursion (Lawful K) (group K lock.inputs key)
   pub tape_sized : Sized K lock.inputs lock.products t
-  pub share1_lawful : All (Lawful K) (group K lock.inputs t.share1.now)
-  pub share2_lawful : All (Lawful K) (group K lock.inputs t.share2.now)
-  pub mask1_lawful : All (Lawful K) (group K lock.products t.mask1.now)
-  pub mask2_lawful : All (Lawful K) (group K lock.products t.mask2.now)
-  pub mask3_lawful : All (Lawful K) (group K lock.products t.mask3.now)
+  pub share1_lawful : AllByRecursion (Lawful K) (group K lock.inputs t.share1.now)
+  pub share2_lawful : AllByRecursion (Lawful K) (group K lock.inputs t.share2.now)
+  pub mask1_lawful : AllByRecursion (Lawful K) (group K lock.products t.mask1.now)
+  pub mask2_lawful : AllByRecursion (Lawful K) (group K lock.products t.mask2.now)
+  pub mask3_lawful : AllByRecursion (Lawful K) (group K lock.products t.mask3.now)
   pub counted : s.products ≡ lock.products
   pub front : s.products_at ≡ 32 + (group_length K lock.inputs + group_length K lock.products)
 

@@ -1,6 +1,6 @@
 -- Three branches together: wires in three work spaces, masks from a tape, products in the round's part of the store.
 use Rattle.std.specs.Prelude.{◌≡◌, ℕ, suc, ◌+◌, ◌*◌, ◌≤◌, List, [], ◌∷◌, ◌++◌, length, slice_set}
-use Rattle.std.specs.List.{AllByRecursion as All}
+use Rattle.std.specs.List.{AllByRecursion}
 use Rattle.kinds.specs.Kind.{Kind, Lawful}
 use Rattle.kinds.specs.Groups.{group_length}
 use Rattle.locks.specs.Circuit.{Gate, ac, mc, ad, mu}
@@ -28,9 +28,9 @@ pub record Masked (K : Kind) (m : ℕ) (r : Masks) : Type 0 where
   pub long1 : group_length K m ≤ length r.first.now
   pub long2 : group_length K m ≤ length r.second.now
   pub long3 : group_length K m ≤ length r.third.now
-  pub lawful1 : All (Lawful K) (group K m r.first.now)
-  pub lawful2 : All (Lawful K) (group K m r.second.now)
-  pub lawful3 : All (Lawful K) (group K m r.third.now)
+  pub lawful1 : AllByRecursion (Lawful K) (group K m r.first.now)
+  pub lawful2 : AllByRecursion (Lawful K) (group K m r.second.now)
+  pub lawful3 : AllByRecursion (Lawful K) (group K m r.third.now)
 
 -- the first n wires of three work spaces
 abbrev pub wires_on : Kind → (n : ℕ) (a b c : List ℕ) → Branch → List (List ℕ)

@@ -1,6 +1,6 @@
 // What stands before the products in each view: blind, shares, masks.
 ghost use Rattle.std.specs.Prelude.{◌≡◌, ◌+◌, ◌≤◌, List, ◌++◌, length};
-ghost use Rattle.std.specs.List.{AllByRecursion as All};
+ghost use Rattle.std.specs.List.{AllByRecursion};
 ghost use Rattle.kinds.specs.Kind.{Lawful};
 ghost use Rattle.kinds.specs.Groups.{group_length};
 ghost use Rattle.theory.specs.declared.Branch.{Branch as Name};
@@ -29,9 +29,9 @@ fn fill_third<K: ElementKind>(front: &mut [u8], tape: Tape<'_>, key: &[u8], coun
     requires sized { length front.old ≡ length tape.blind3.now + (group_length K.kind count + length tape.mask3.now) }
     requires key { length key.now ≡ group_length K.kind count }
     requires shares { (length tape.share1.now ≡ group_length K.kind count) × (length tape.share2.now ≡ group_length K.kind count) }
-    requires lawful { All (Lawful K.kind) (group K.kind count key.now) }
-    requires lawful1 { All (Lawful K.kind) (group K.kind count tape.share1.now) }
-    requires lawful2 { All (Lawful K.kind) (group K.kind count tape.share2.now) }
+    requires lawful { AllByRecursion (Lawful K.kind) (group K.kind count key.now) }
+    requires lawful1 { AllByRecursion (Lawful K.kind) (group K.kind count tape.share1.now) }
+    requires lawful2 { AllByRecursion (Lawful K.kind) (group K.kind count tape.share2.now) }
     ensures { front.new ≡ tape.entry.blind3.now ++ (group_bytes K.kind (third_of K.kind count key.now tape.entry) ++ tape.entry.mask3.now) }
 {
     let from = tape.blind3.len();
@@ -53,9 +53,9 @@ pub fn write_fronts<K: ElementKind>(
     requires front { shape.products_at ≡ 32 + (group_length K.kind count + group_length K.kind shape.products) }
     requires sized { Sized K.kind count shape.products tape }
     requires key { length key.now ≡ group_length K.kind count }
-    requires lawful { All (Lawful K.kind) (group K.kind count key.now) }
-    requires lawful1 { All (Lawful K.kind) (group K.kind count tape.share1.now) }
-    requires lawful2 { All (Lawful K.kind) (group K.kind count tape.share2.now) }
+    requires lawful { AllByRecursion (Lawful K.kind) (group K.kind count key.now) }
+    requires lawful1 { AllByRecursion (Lawful K.kind) (group K.kind count tape.share1.now) }
+    requires lawful2 { AllByRecursion (Lawful K.kind) (group K.kind count tape.share2.now) }
     ensures { (i : Name) → front_in shape.view_length shape.products_at part.new i ≡ fronts_of K.kind count key.now tape.entry i }
 {
     let size = shape.products_at;

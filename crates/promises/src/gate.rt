@@ -1,6 +1,6 @@
 // One gate in three branches.
 ghost use Rattle.std.specs.Prelude.{◌≡◌, suc, ◌+◌, ◌*◌, ◌<◌, ◌≤◌, List, [], ◌∷◌, length};
-ghost use Rattle.std.specs.List.{AllByRecursion as All};
+ghost use Rattle.std.specs.List.{AllByRecursion};
 ghost use Rattle.kinds.specs.Kind.{Lawful};
 ghost use Rattle.kinds.specs.Groups.{group_length};
 ghost use Rattle.locks.specs.Encoding.{GateFor};
@@ -28,7 +28,7 @@ use locks::records::GateRecord;
 fn mask_for<K: ElementKind>(gate: GateRecord<'_>, masks: &[u8], count: usize, q: usize) -> K
     requires some { q + has (gate_of gate) ≤ count }
     requires within { group_length K.kind count ≤ length masks.now }
-    requires lawful { All (Lawful K.kind) (group K.kind count masks.now) }
+    requires lawful { AllByRecursion (Lawful K.kind) (group K.kind count masks.now) }
     ensures { K.ElementKind.row result ≡ taken K.kind (gate_of gate.entry) (read (ops_of K.kind) (group K.kind count masks.now) q) }
 {
     match gate {
@@ -86,9 +86,9 @@ pub fn three_gate<K: ElementKind>(
     requires within1 { suc own * K.kind.width ≤ length work1.old }
     requires within2 { suc own * K.kind.width ≤ length work2.old }
     requires within3 { suc own * K.kind.width ≤ length work3.old }
-    requires lawful1 { All (Lawful K.kind) (wires_in K.kind own work1.old) }
-    requires lawful2 { All (Lawful K.kind) (wires_in K.kind own work2.old) }
-    requires lawful3 { All (Lawful K.kind) (wires_in K.kind own work3.old) }
+    requires lawful1 { AllByRecursion (Lawful K.kind) (wires_in K.kind own work1.old) }
+    requires lawful2 { AllByRecursion (Lawful K.kind) (wires_in K.kind own work2.old) }
+    requires lawful3 { AllByRecursion (Lawful K.kind) (wires_in K.kind own work3.old) }
     requires masked { Masked K.kind shape.products masks }
     requires shaped { Shaped K.kind shape (length part.old) }
     requires some { q + has (gate_of gate) ≤ shape.products }

@@ -1,6 +1,6 @@
 // Whether a key fits a lock.
 ghost use Rattle.std.specs.Prelude.{◌≡◌, ◌+◌, ◌*◌, ◌<◌, ◌≤◌, length};
-ghost use Rattle.std.specs.List.{AllByRecursion as All};
+ghost use Rattle.std.specs.List.{AllByRecursion};
 ghost use Rattle.kinds.specs.Kind.{Lawful, same_row};
 ghost use Rattle.kinds.specs.Groups.{group_length};
 ghost use Rattle.locks.specs.Encoding.{OutputFor};
@@ -28,9 +28,9 @@ use locks::records::OutputRecord;
 fn run_plain<K: ElementKind>(lock: Lock<'_>, work: &mut [u8])
     requires stands { Stands K.kind lock }
     requires within { (lock.inputs + lock.gates) * K.kind.width ≤ length work.old }
-    requires lawful { All (Lawful K.kind) (wires_in K.kind lock.inputs work.old) }
+    requires lawful { AllByRecursion (Lawful K.kind) (wires_in K.kind lock.inputs work.old) }
     ensures wires { wires_in K.kind (lock.entry.inputs + lock.entry.gates) work.new ≡ plain (ops_of K.kind) (circuit_of K.kind lock.entry).gates (wires_in K.kind lock.entry.inputs work.old) }
-    ensures lawful { All (Lawful K.kind) (wires_in K.kind (lock.entry.inputs + lock.entry.gates) work.new) }
+    ensures lawful { AllByRecursion (Lawful K.kind) (wires_in K.kind (lock.entry.inputs + lock.entry.gates) work.new) }
 {
     let inputs = lock.inputs as usize;
     let gates = lock.gates as usize;
@@ -44,7 +44,7 @@ fn run_plain<K: ElementKind>(lock: Lock<'_>, work: &mut [u8])
 fn meets<K: ElementKind>(output: OutputRecord<'_>, work: &[u8], wires: usize) -> bool
     requires fit { OutputFor K.kind wires (output_of output) }
     requires within { wires * K.kind.width ≤ length work.now }
-    requires lawful { All (Lawful K.kind) (wires_in K.kind wires work.now) }
+    requires lawful { AllByRecursion (Lawful K.kind) (wires_in K.kind wires work.now) }
     ensures { result ≡ same_row (read (ops_of K.kind) (wires_in K.kind wires work.now) (output_of output.entry).wire) (output_of output.entry).target }
 {
     match K::read(output.target) {
@@ -57,7 +57,7 @@ fn meets<K: ElementKind>(output: OutputRecord<'_>, work: &[u8], wires: usize) ->
 fn first_missed<K: ElementKind>(lock: Lock<'_>, work: &[u8]) -> Option<usize>
     requires stands { Stands K.kind lock }
     requires within { (lock.inputs + lock.gates) * K.kind.width ≤ length work.now }
-    requires lawful { All (Lawful K.kind) (wires_in K.kind (lock.inputs + lock.gates) work.now) }
+    requires lawful { AllByRecursion (Lawful K.kind) (wires_in K.kind (lock.inputs + lock.gates) work.now) }
     ensures { result ≡ unlike (at_outputs (ops_of K.kind) (circuit_of K.kind lock.entry).outputs (wires_in K.kind (lock.entry.inputs + lock.entry.gates) work.now)) (targets (ops_of K.kind) (circuit_of K.kind lock.entry).outputs) }
 {
     let wires = lock.inputs as usize + lock.gates as usize;
@@ -86,7 +86,7 @@ fn test_targets<K: ElementKind>(lock: Lock<'_>, key: &[u8], work: &mut [u8]) -> 
     requires stands { Stands K.kind lock }
     requires within { (lock.inputs + lock.gates) * K.kind.width ≤ length work.old }
     requires sized { length key.now ≡ group_length K.kind lock.inputs }
-    requires lawful { All (Lawful K.kind) (group K.kind lock.inputs key.now) }
+    requires lawful { AllByRecursion (Lawful K.kind) (group K.kind lock.inputs key.now) }
     ensures { result ≡ first_at (unlike (at_outputs (ops_of K.kind) (circuit_of K.kind lock.entry).outputs (plain (ops_of K.kind) (circuit_of K.kind lock.entry).gates (group K.kind lock.entry.inputs key.now))) (targets (ops_of K.kind) (circuit_of K.kind lock.entry).outputs)) (fault Reason.KeyDoesNotFit) }
 {
     wires_from_group::<K>(key, lock.inputs as usize, work);

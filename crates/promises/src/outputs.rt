@@ -1,6 +1,6 @@
 // The output shares of a branch.
 ghost use Rattle.std.specs.Prelude.{◌≡◌, ◌+◌, ◌*◌, ◌≤◌, length};
-ghost use Rattle.std.specs.List.{AllByRecursion as All};
+ghost use Rattle.std.specs.List.{AllByRecursion};
 ghost use Rattle.kinds.specs.Kind.{Lawful};
 ghost use Rattle.kinds.specs.Groups.{group_length};
 ghost use Rattle.theory.specs.Algebra.{ops_of};
@@ -19,7 +19,7 @@ use locks::lock::Lock;
 pub fn write_outputs<K: ElementKind>(lock: Lock<'_>, work: &[u8], out: &mut [u8])
     requires stands { Stands K.kind lock }
     requires within { (lock.inputs + lock.gates) * K.kind.width ≤ length work.now }
-    requires lawful { All (Lawful K.kind) (wires_in K.kind (lock.inputs + lock.gates) work.now) }
+    requires lawful { AllByRecursion (Lawful K.kind) (wires_in K.kind (lock.inputs + lock.gates) work.now) }
     requires sized { length out.old ≡ group_length K.kind lock.outputs }
     ensures { out.new ≡ group_bytes K.kind (at_outputs (ops_of K.kind) (circuit_of K.kind lock.entry).outputs (wires_in K.kind (lock.entry.inputs + lock.entry.gates) work.now)) }
 {

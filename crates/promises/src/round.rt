@@ -1,6 +1,6 @@
 // A whole round: its views in their part of the store, and its first message.
 ghost use Rattle.std.specs.Prelude.{◌≡◌, ◌+◌, ◌*◌, ◌≤◌, ◌++◌, length};
-ghost use Rattle.std.specs.List.{AllByRecursion as All};
+ghost use Rattle.std.specs.List.{AllByRecursion};
 ghost use Rattle.kinds.specs.Kind.{Lawful};
 ghost use Rattle.kinds.specs.Groups.{group_length};
 ghost use Rattle.locks.specs.Lengths.{first_length};
@@ -37,9 +37,9 @@ fn start_wires<K: ElementKind>(
 )
     requires sized { (group_length K.kind count ≤ length tape.share1.now) × ((group_length K.kind count ≤ length tape.share2.now) × (group_length K.kind count ≤ length third.now)) }
     requires room { (count * K.kind.width ≤ length work1.old) × ((count * K.kind.width ≤ length work2.old) × (count * K.kind.width ≤ length work3.old)) }
-    requires lawful1 { All (Lawful K.kind) (group K.kind count tape.share1.now) }
-    requires lawful2 { All (Lawful K.kind) (group K.kind count tape.share2.now) }
-    requires lawful3 { All (Lawful K.kind) (group K.kind count third.now) }
+    requires lawful1 { AllByRecursion (Lawful K.kind) (group K.kind count tape.share1.now) }
+    requires lawful2 { AllByRecursion (Lawful K.kind) (group K.kind count tape.share2.now) }
+    requires lawful3 { AllByRecursion (Lawful K.kind) (group K.kind count third.now) }
     ensures first { wires_in K.kind count work1.new ≡ group K.kind count tape.entry.share1.now }
     ensures second { wires_in K.kind count work2.new ≡ group K.kind count tape.entry.share2.now }
     ensures third { wires_in K.kind count work3.new ≡ group K.kind count third.now }
@@ -68,7 +68,7 @@ fn write_views<K: ElementKind>(
     ensures views { views.new ≡ round_views K.kind lock.entry key.now tape.entry }
     ensures each { (i : Name) → view_part shape.view_length views.new i ≡ round_view K.kind lock.entry key.now tape.entry i }
     ensures wires { (i : Name) → wires_on K.kind (lock.entry.inputs + lock.entry.gates) work1.new work2.new work3.new i ≡ round_wires K.kind lock.entry key.now tape.entry i }
-    ensures lawful { (i : Name) → All (Lawful K.kind) (wires_on K.kind (lock.entry.inputs + lock.entry.gates) work1.new work2.new work3.new i) }
+    ensures lawful { (i : Name) → AllByRecursion (Lawful K.kind) (wires_on K.kind (lock.entry.inputs + lock.entry.gates) work1.new work2.new work3.new i) }
 {
     let inputs = lock.inputs as usize;
     write_fronts::<K>(tape, key, inputs, shape, views);

@@ -1,6 +1,6 @@
 // The run of three branches, in one pass over the gates.
 ghost use Rattle.std.specs.Prelude.{◌≡◌, ◌+◌, ◌*◌, ◌≤◌, length};
-ghost use Rattle.std.specs.List.{AllByRecursion as All};
+ghost use Rattle.std.specs.List.{AllByRecursion};
 ghost use Rattle.kinds.specs.Kind.{Lawful};
 ghost use Rattle.theory.specs.Algebra.{ops_of};
 ghost use Rattle.theory.specs.Runs.{rerun, honest};
@@ -33,14 +33,14 @@ pub fn run_three<K: ElementKind>(
     requires within1 { (lock.inputs + lock.gates) * K.kind.width ≤ length work1.old }
     requires within2 { (lock.inputs + lock.gates) * K.kind.width ≤ length work2.old }
     requires within3 { (lock.inputs + lock.gates) * K.kind.width ≤ length work3.old }
-    requires lawful1 { All (Lawful K.kind) (wires_in K.kind lock.inputs work1.old) }
-    requires lawful2 { All (Lawful K.kind) (wires_in K.kind lock.inputs work2.old) }
-    requires lawful3 { All (Lawful K.kind) (wires_in K.kind lock.inputs work3.old) }
+    requires lawful1 { AllByRecursion (Lawful K.kind) (wires_in K.kind lock.inputs work1.old) }
+    requires lawful2 { AllByRecursion (Lawful K.kind) (wires_in K.kind lock.inputs work2.old) }
+    requires lawful3 { AllByRecursion (Lawful K.kind) (wires_in K.kind lock.inputs work3.old) }
     requires masked { Masked K.kind shape.products masks }
     requires shaped { Shaped K.kind shape (length part.old) }
     requires counted { shape.products ≡ lock.products }
     ensures wires { (i : Name) → wires_on K.kind (lock.entry.inputs + lock.entry.gates) work1.new work2.new work3.new i ≡ rerun (ops_of K.kind) i (gates_at K.kind lock.entry.gates (gates_place lock.entry)) (honest_view K.kind (gates_at K.kind lock.entry.gates (gates_place lock.entry)) (wires_on K.kind lock.entry.inputs work1.old work2.old work3.old) (masks_on K.kind shape.products masks.entry) i) }
-    ensures lawful { (i : Name) → All (Lawful K.kind) (wires_on K.kind (lock.entry.inputs + lock.entry.gates) work1.new work2.new work3.new i) }
+    ensures lawful { (i : Name) → AllByRecursion (Lawful K.kind) (wires_on K.kind (lock.entry.inputs + lock.entry.gates) work1.new work2.new work3.new i) }
     ensures kept { (i : Name) → front_in shape.view_length shape.products_at part.new i ≡ front_in shape.view_length shape.products_at part.old i }
     ensures filled { (i : Name) → products_in K.kind shape.view_length shape.products_at shape.products part.new i ≡ honest (ops_of K.kind) (gates_at K.kind lock.entry.gates (gates_place lock.entry)) (wires_on K.kind lock.entry.inputs work1.old work2.old work3.old) (masks_on K.kind shape.products masks.entry) i }
 {

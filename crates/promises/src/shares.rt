@@ -1,6 +1,6 @@
 // The third branch's shares.
 ghost use Rattle.std.specs.Prelude.{◌≡◌, ◌<◌, ◌≤◌, length};
-ghost use Rattle.std.specs.List.{AllByRecursion as All};
+ghost use Rattle.std.specs.List.{AllByRecursion};
 ghost use Rattle.kinds.specs.Kind.{Lawful};
 ghost use Rattle.kinds.specs.Groups.{group_length};
 ghost use Rattle.theory.specs.Algebra.{ops_of};
@@ -20,9 +20,9 @@ fn third_share<K: ElementKind>(
 ) -> K
     requires below { i < count }
     requires within { (group_length K.kind count ≤ length key.now) × ((group_length K.kind count ≤ length share1.now) × (group_length K.kind count ≤ length share2.now)) }
-    requires lawful { All (Lawful K.kind) (group K.kind count key.now) }
-    requires lawful1 { All (Lawful K.kind) (group K.kind count share1.now) }
-    requires lawful2 { All (Lawful K.kind) (group K.kind count share2.now) }
+    requires lawful { AllByRecursion (Lawful K.kind) (group K.kind count key.now) }
+    requires lawful1 { AllByRecursion (Lawful K.kind) (group K.kind count share1.now) }
+    requires lawful2 { AllByRecursion (Lawful K.kind) (group K.kind count share2.now) }
     ensures { K.ElementKind.row result ≡ K.kind.add (K.kind.add (read (ops_of K.kind) (group K.kind count key.now) i) (K.kind.neg (read (ops_of K.kind) (group K.kind count share1.now) i))) (K.kind.neg (read (ops_of K.kind) (group K.kind count share2.now) i)) }
 {
     let whole: K = element(key, count, i);
@@ -40,9 +40,9 @@ pub fn third_shares<K: ElementKind>(
     out: &mut [u8],
 )
     requires within { (group_length K.kind count ≤ length key.now) × ((group_length K.kind count ≤ length share1.now) × (group_length K.kind count ≤ length share2.now)) }
-    requires lawful { All (Lawful K.kind) (group K.kind count key.now) }
-    requires lawful1 { All (Lawful K.kind) (group K.kind count share1.now) }
-    requires lawful2 { All (Lawful K.kind) (group K.kind count share2.now) }
+    requires lawful { AllByRecursion (Lawful K.kind) (group K.kind count key.now) }
+    requires lawful1 { AllByRecursion (Lawful K.kind) (group K.kind count share1.now) }
+    requires lawful2 { AllByRecursion (Lawful K.kind) (group K.kind count share2.now) }
     requires sized { length out.old ≡ group_length K.kind count }
     ensures { out.new ≡ group_bytes K.kind (less (ops_of K.kind) (less (ops_of K.kind) (group K.kind count key.now) (group K.kind count share1.now)) (group K.kind count share2.now)) }
 {

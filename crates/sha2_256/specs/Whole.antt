@@ -1,7 +1,7 @@
 -- The digest from its blocks, and the law of its bytes.
 use Rattle.std.specs.Prelude.{◌≡◌, ℕ, zero, suc, ◌+◌, ◌-◌, ◌*◌, ◌/◌, ◌<◌, List, ◌++◌, length, take, drop, refl}
 use Rattle.std.proofs.Common.{arith}
-use Rattle.std.specs.List.{flat_map, AllByRecursion as All}
+use Rattle.std.specs.List.{flat_map, AllByRecursion}
 use Rattle.std.proofs.lemmas.List.{length-append}
 use Rattle.parts.specs.Words.{be32}
 use Rattle.parts.specs.Blocks.{over_blocks}
@@ -34,7 +34,7 @@ length_digest m =
     let b = length_after (length (padded m) / 64) (padded m) in
     omega arith
 
-pub digest_bytes : (m : List ℕ) → All (λ b. b < 256) (sha256_of m)
+pub digest_bytes : (m : List ℕ) → AllByRecursion (λ b. b < 256) (sha256_of m)
 unfolding sha256_of
 digest_bytes m =
     all_joined (λ b. b < 256) be32 (λ x. (omega arith, (omega arith, (omega arith, (omega arith, tt))))) _

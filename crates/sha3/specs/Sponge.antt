@@ -2,7 +2,7 @@
 use Rattle.std.specs.Prelude.{◌≡◌, ℕ, zero, suc, ◌+◌, ◌-◌, ◌*◌, ◌/◌, ◌%◌, ◌<◌, ◌≤◌, true, false, List, [], ◌∷◌, ◌++◌, length, take, drop, replicate, bit_or, nat_eq, slice_index, slice_set, refl}
 use Rattle.std.proofs.Common.{◌∙◌, inl, inr, arith}
 use Rattle.std.specs.Int.Bits.{xor_zero_r}
-use Rattle.std.specs.List.{flat_map, AllByRecursion as All}
+use Rattle.std.specs.List.{flat_map, AllByRecursion}
 use Rattle.std.proofs.lemmas.Bool.{cases_lt, eq-eqb, ne_eqb}
 use Rattle.std.proofs.lemmas.List.{append_assoc, length-append, length-take-le, length-drop, length-replicate, get_or_past, take_all, set_at, get_or_at, replicate_more}
 use Rattle.parts.specs.Words.{le64}
@@ -93,7 +93,7 @@ length_digest m =
     let d = length-take-le 4 s (omega arith) in
     omega arith
 
-pub digest_bytes : (m : List ℕ) → All (λ b. b < 256) (sha3_256_of m)
+pub digest_bytes : (m : List ℕ) → AllByRecursion (λ b. b < 256) (sha3_256_of m)
 unfolding sha3_256_of
 digest_bytes m =
     all_joined (λ b. b < 256) le64

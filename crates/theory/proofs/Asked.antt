@@ -1,7 +1,7 @@
 -- Calls on bytes are calls of the history.
 use Rattle.std.proofs.Common.{◌≡◌, ℕ, suc, ◌+◌, ◌*◌, ◌≤◌, Bool, true, false, cond, eqb, List, [], ◌∷◌, map, length, Some, None, Ok, Err, Option, Result, sym, refl, ap, ◌∙◌, subst, ap₂, arith, length-drop, length-take}
 use Rattle.std.proofs.lemmas.Bool.{eqb-true, eq-eqb, leb-true, le-leb}
-use Rattle.std.specs.List.{AllByRecursion as All}
+use Rattle.std.specs.List.{AllByRecursion}
 use Rattle.faults.specs.declared.Fault.{Fault}
 use Rattle.kinds.specs.Kind.{Kind, Lawful, Laws}
 use Rattle.locks.specs.Circuit.{Circuit}
@@ -125,7 +125,7 @@ module _ (long : ℕ) (n size : ℕ) where
 
   -- an accepted promise's views
   pub views : (p : Promise) → Stands p → (checks long).early p ≡ Ok tt → (checks long).late p ≡ Ok tt → (i : Branch)
-      → ViewFor p.lock (view (ops_of p.kind) p.lock p.key p.tape i) × ViewLawful p.kind (view (ops_of p.kind) p.lock p.key p.tape i) × All (Lawful p.kind) (out_shares (ops_of p.kind) p.lock p.key p.tape i)
+      → ViewFor p.lock (view (ops_of p.kind) p.lock p.key p.tape i) × ViewLawful p.kind (view (ops_of p.kind) p.lock p.key p.tape i) × AllByRecursion (Lawful p.kind) (out_shares (ops_of p.kind) p.lock p.key p.tape i)
   views p st e h i =
       let v = values p st h in
       let c = complete_on st.0 p.lock (st.1 (both_ok _ _ e).0).0 p.key v.key_lawful p.tape v.tape_lawful v.fits v.tape_for i in

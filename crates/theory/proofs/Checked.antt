@@ -2,7 +2,7 @@
 use Rattle.std.proofs.Common.{◌≡◌, ℕ, suc, Bool, true, false, cond, eqb, List, [], ◌∷◌, length, get_or, Some, None, Ok, Err, Option, Result, sym, refl, ap, ◌∙◌, subst, ap₂, arith}
 use lib.Dec.{eqb_refl}
 use Rattle.std.proofs.lemmas.Bool.{eqb-true, eqb-false}
-use Rattle.std.specs.List.{AllByRecursion as All}
+use Rattle.std.specs.List.{AllByRecursion}
 use Rattle.faults.specs.declared.Fault.{Fault}
 use Rattle.faults.specs.declared.Reason.{Reason}
 use Rattle.faults.specs.Outcomes.{check}
@@ -40,23 +40,23 @@ pub later_none : (o : Option ℕ) → later o ≡ None → o ≡ None
 later_none None h = refl
 later_none (Some i) h = not_some (sym h)
 
-pub lawful_all : (K : Kind) (xs : List (List ℕ)) → unlawful K xs ≡ None → All (Lawful K) xs
+pub lawful_all : (K : Kind) (xs : List (List ℕ)) → unlawful K xs ≡ None → AllByRecursion (Lawful K) xs
 lawful_all K [] h = tt
 lawful_all K (x ∷ xs) h = go (lawful_all K xs) (K.lawful x) refl h
   where
-    go : (unlawful K xs ≡ None → All (Lawful K) xs) → (b : Bool) → K.lawful x ≡ b → cond b (later (unlawful K xs)) (Some 0) ≡ None → Lawful K x × All (Lawful K) xs
+    go : (unlawful K xs ≡ None → AllByRecursion (Lawful K) xs) → (b : Bool) → K.lawful x ≡ b → cond b (later (unlawful K xs)) (Some 0) ≡ None → Lawful K x × AllByRecursion (Lawful K) xs
     go ih true e k = (e, ih (later_none _ k))
     go ih false e k = not_some (sym k)
 
-pub all_lawful : (K : Kind) (xs : List (List ℕ)) → All (Lawful K) xs → unlawful K xs ≡ None
+pub all_lawful : (K : Kind) (xs : List (List ℕ)) → AllByRecursion (Lawful K) xs → unlawful K xs ≡ None
 all_lawful K [] h = refl
 all_lawful K (x ∷ xs) h = ap₂ (λ b o. cond b (later o) (Some 0)) h.0 (all_lawful K xs h.1)
 
 -- a lawful group passes, and only such a one
-pub group_ok : (K : Kind) (r : Reason) (at : ℕ) (es : List (List ℕ)) → lawful_at K r at es ≡ Ok tt → All (Lawful K) es
+pub group_ok : (K : Kind) (r : Reason) (at : ℕ) (es : List (List ℕ)) → lawful_at K r at es ≡ Ok tt → AllByRecursion (Lawful K) es
 group_ok K r at es h = lawful_all K es (first_none _ _ h)
 
-pub ok_group : (K : Kind) (r : Reason) (at : ℕ) (es : List (List ℕ)) → All (Lawful K) es → lawful_at K r at es ≡ Ok tt
+pub ok_group : (K : Kind) (r : Reason) (at : ℕ) (es : List (List ℕ)) → AllByRecursion (Lawful K) es → lawful_at K r at es ≡ Ok tt
 ok_group K r at es h = none_first _ (all_lawful K es h)
 
 pub differ_same : (xs ys : List ℕ) → differ xs ys ≡ None → xs ≡ ys

@@ -1,6 +1,6 @@
 -- What is proved of one round, before bytes, seals and histories.
 use Rattle.std.proofs.Common.{◌≡◌, ℕ, ◌⊎◌, List, length}
-use Rattle.std.specs.List.{AllByRecursion as All}
+use Rattle.std.specs.List.{AllByRecursion}
 use Rattle.kinds.specs.Kind.{Kind, Laws, Lawful}
 use Rattle.locks.specs.Circuit.{Circuit}
 use Rattle.seals.specs.Sealing.{Sealing}
@@ -41,17 +41,17 @@ module _ (K : Kind) where
   abbrev pub SoundOn : Type 0
   SoundOn = (l : Circuit (List ℕ)) → CircuitLawful K l → (y : Branch → List (List ℕ)) (V : Branch → View (List ℕ)) → ((i : Branch) → ViewLawful K (V i))
       → ((e : Branch) → Accepts (ops_of K) l y e (V e) (V (next e)))
-      → Fits (ops_of K) l (sum_of (ops_of K) (λ i. (V i).wires)) × All (Lawful K) (sum_of (ops_of K) (λ i. (V i).wires))
+      → Fits (ops_of K) l (sum_of (ops_of K) (λ i. (V i).wires)) × AllByRecursion (Lawful K) (sum_of (ops_of K) (λ i. (V i).wires))
 
   abbrev pub CompleteOn : Type 0
-  CompleteOn = (l : Circuit (List ℕ)) → CircuitLawful K l → (key : List (List ℕ)) → All (Lawful K) key → (t : Tape (List ℕ)) → TapeLawful K t
+  CompleteOn = (l : Circuit (List ℕ)) → CircuitLawful K l → (key : List (List ℕ)) → AllByRecursion (Lawful K) key → (t : Tape (List ℕ)) → TapeLawful K t
       → Fits (ops_of K) l key → TapeFor l t
       → (e : Branch) → Accepts (ops_of K) l (out_shares (ops_of K) l key t) e (view (ops_of K) l key t e) (view (ops_of K) l key t (next e))
-      × ViewLawful K (view (ops_of K) l key t e) × All (Lawful K) (out_shares (ops_of K) l key t e)
+      × ViewLawful K (view (ops_of K) l key t e) × AllByRecursion (Lawful K) (out_shares (ops_of K) l key t e)
 
   abbrev pub HidesOn : Type 0
-  HidesOn = (l : Circuit (List ℕ)) → CircuitLawful K l → (key : List (List ℕ)) → All (Lawful K) key → (t : Tape (List ℕ)) → TapeLawful K t
-      → (e : Branch) (key' : List (List ℕ)) → All (Lawful K) key'
+  HidesOn = (l : Circuit (List ℕ)) → CircuitLawful K l → (key : List (List ℕ)) → AllByRecursion (Lawful K) key → (t : Tape (List ℕ)) → TapeLawful K t
+      → (e : Branch) (key' : List (List ℕ)) → AllByRecursion (Lawful K) key'
       → Fits (ops_of K) l key → TapeFor l t → Fits (ops_of K) l key'
       → (u : Tape (List ℕ)) × (TapeLawful K u × Alike (ops_of K) l key t e key' u)
       × ((u' : Tape (List ℕ)) → TapeLawful K u' → Alike (ops_of K) l key t e key' u' → u' ≡ u)
@@ -60,12 +60,12 @@ abbrev pub Extracts : Type 0
 Extracts = (K : Kind) → Laws K → (S : Sealing) (l : Circuit (List ℕ)) → CircuitLawful K l
     → (y : Branch → List (List ℕ)) (z : Branch → List ℕ) (a b : Branch → Blinded)
     → ((e : Branch) → Passes K S l y z e (a e) (b e))
-    → (Fits (ops_of K) l (sum_of (ops_of K) (λ i. (a i).1.wires)) × All (Lawful K) (sum_of (ops_of K) (λ i. (a i).1.wires)))
+    → (Fits (ops_of K) l (sum_of (ops_of K) (λ i. (a i).1.wires)) × AllByRecursion (Lawful K) (sum_of (ops_of K) (λ i. (a i).1.wires)))
     ⊎ ((e : Branch) × (view_bytes K (b e) ≡ view_bytes K (a (next e)) → ⊥) × (S.seal (view_bytes K (b e)) ≡ S.seal (view_bytes K (a (next e)))))
 
 abbrev pub AnswersPass : Type 0
 AnswersPass = (K : Kind) → Laws K → (S : Sealing) (l : Circuit (List ℕ)) → CircuitLawful K l
-    → (key : List (List ℕ)) → All (Lawful K) key → Fits (ops_of K) l key
+    → (key : List (List ℕ)) → AllByRecursion (Lawful K) key → Fits (ops_of K) l key
     → (t : Tape (List ℕ)) → TapeLawful K t → TapeFor l t → (blind : Branch → List ℕ) → ((i : Branch) → length (blind i) ≡ 32)
     → (e : Branch)
     → Passes K S l (out_shares (ops_of K) l key t) (λ i. S.seal (view_bytes K (blind i, view (ops_of K) l key t i))) e

@@ -3,7 +3,7 @@ use Rattle.std.proofs.Common.{◌≡◌, ℕ, suc, ◌+◌, ◌*◌, ◌<◌, �
 use mathlib.Core.Path.{fun_ext}
 use lib.ListN.{length-map}
 use Rattle.std.proofs.lemmas.Bool.{eq-eqb, lt-ltb}
-use Rattle.std.specs.List.{AllByRecursion as All}
+use Rattle.std.specs.List.{AllByRecursion}
 use Rattle.kinds.specs.Kind.{Kind, Lawful, Laws}
 use Rattle.locks.specs.Circuit.{Circuit}
 use Rattle.theory.specs.Completeness.{Honest, Completes}
@@ -74,7 +74,7 @@ module _ (long : ℕ) (g : Given) (o : Honest long g) where
   outs_long : (i : Branch) → length ((message p).outs i) ≡ length l.outputs
   outs_long i = length-map l.outputs _
 
-  outs_lawful : (i : Branch) → All (Lawful K) ((message p).outs i)
+  outs_lawful : (i : Branch) → AllByRecursion (Lawful K) ((message p).outs i)
   outs_lawful i = (views long 0 0 p stands early_fine late_is i).2
 
   view_back : (i : Branch) → view_of K l (view_bytes p.kind (opened_view p i)) ≡ opened_view p i
@@ -104,7 +104,7 @@ module _ (long : ℕ) (g : Given) (o : Honest long g) where
         work1_size = w1;
         work2_size = w2;
         first_mark = refl;
-        outs_lawful = λ i. subst (All (Lawful K)) (sym (outs-is i)) (outs_lawful i);
+        outs_lawful = λ i. subst (AllByRecursion (Lawful K)) (sym (outs-is i)) (outs_lawful i);
         answer_mark = refl;
         answer_pick = refl;
         passes = subst (λ x. x) (λ i. Passes K g.sealing l (fun_ext (λ j. sym (outs-is j)) i) (fun_ext (λ j. sym (seals-is j)) i) e (sym a-is i) (sym b-is i)) pass;

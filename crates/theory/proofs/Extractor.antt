@@ -2,7 +2,7 @@
 use Rattle.std.proofs.Common.{◌≡◌, ◌⊎◌, sym, refl, ◌∙◌, subst, inl, inr}
 use mathlib.Core.List.{List-discrete}
 use native.Mathlib.Decide.{ℕ_discrete}
-use Rattle.std.specs.List.{AllByRecursion as All}
+use Rattle.std.specs.List.{AllByRecursion}
 use Rattle.kinds.specs.Kind.{Lawful}
 use Rattle.theory.specs.Algebra.{ops_of}
 use Rattle.theory.specs.Runs.{Branch, one, two, three, next, sum_of, Fits}
@@ -16,7 +16,7 @@ pub extracts : Extracts
 extracts K laws S l lok y z a b pass = go (same one) (same two) (same three)
   where
     Goal : Type 0
-    Goal = (Fits (ops_of K) l (sum_of (ops_of K) (λ i. (a i).1.wires)) × All (Lawful K) (sum_of (ops_of K) (λ i. (a i).1.wires)))
+    Goal = (Fits (ops_of K) l (sum_of (ops_of K) (λ i. (a i).1.wires)) × AllByRecursion (Lawful K) (sum_of (ops_of K) (λ i. (a i).1.wires)))
         ⊎ ((e : Branch) × (view_bytes K (b e) ≡ view_bytes K (a (next e)) → ⊥) × (S.seal (view_bytes K (b e)) ≡ S.seal (view_bytes K (a (next e)))))
 
     same : (e : Branch) → Dec (view_bytes K (b e) ≡ view_bytes K (a (next e)))

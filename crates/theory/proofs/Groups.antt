@@ -1,7 +1,7 @@
 -- Groups of elements: read as written, written as read.
 use Rattle.std.proofs.Common.{◌≡◌, ℕ, zero, suc, ◌+◌, ◌*◌, ◌<◌, ◌≤◌, List, [], ◌∷◌, ◌++◌, length, get_or, take, drop, sym, refl, ap, ◌∙◌, subst, ap₂, append_assoc, append-nil, suc-mul, zero-mul, arith, length-append, take-take, drop-drop, take_at, drop_at}
 use Rattle.std.proofs.lemmas.List.{take-append-drop, drop-take, length-take-le}
-use Rattle.std.specs.List.{AllByRecursion as All}
+use Rattle.std.specs.List.{AllByRecursion}
 use Rattle.kinds.specs.Kind.{Kind, Laws, Lawful, Bytes}
 use Rattle.kinds.specs.Groups.{group_length}
 use Rattle.theory.specs.Groups.{group, group_bytes, element_at, GroupLaws}
@@ -10,7 +10,7 @@ use Rattle.theory.specs.Groups.{group, group_bytes, element_at, GroupLaws}
 pub cut : {A : Type 0} (a b : ℕ) (xs : List A) → take b (drop a xs) ++ drop (a + b) xs ≡ drop a xs
 cut a b xs = ap (λ t. take b (drop a xs) ++ t) (sym (drop-drop b a xs)) ∙ take-append-drop b (drop a xs)
 
-pub all_append : {A : Type 0} (P : A → Type 0) (xs ys : List A) → All P xs → All P ys → All P (xs ++ ys)
+pub all_append : {A : Type 0} (P : A → Type 0) (xs ys : List A) → AllByRecursion P xs → AllByRecursion P ys → AllByRecursion P (xs ++ ys)
 all_append P [] ys h k = k
 all_append P (x ∷ xs) ys h k = (h.0, all_append P xs ys h.1 k)
 
@@ -56,7 +56,7 @@ module _ (K : Kind) where
       placed n i (drop w xs) (omega arith) ∙ ap (take w) (drop-drop (i * w) w xs ∙ ap (λ j. drop j xs) e)
 
   module _ (laws : Laws K) where
-    pub read_written : (es : List (List ℕ)) (rest : List ℕ) → All (Lawful K) es → group K (length es) (group_bytes K es ++ rest) ≡ es
+    pub read_written : (es : List (List ℕ)) (rest : List ℕ) → AllByRecursion (Lawful K) es → group K (length es) (group_bytes K es ++ rest) ≡ es
     unfolding group group_bytes
     read_written [] rest ok = refl
     read_written (e ∷ es) rest ok =
@@ -65,12 +65,12 @@ module _ (K : Kind) where
         (ap (take K.width) again ∙ take_at e (group_bytes K es ++ rest) K.width (laws.sized e ok.0))
         (ap (λ t. group K (length es) (drop K.width t)) again ∙ ap (group K (length es)) (drop_at e (group_bytes K es ++ rest) K.width (laws.sized e ok.0)) ∙ read_written es rest ok.1)
 
-    pub sized : (es : List (List ℕ)) → All (Lawful K) es → length (group_bytes K es) ≡ group_length K (length es)
+    pub sized : (es : List (List ℕ)) → AllByRecursion (Lawful K) es → length (group_bytes K es) ≡ group_length K (length es)
     unfolding group_bytes
     sized [] ok = sym (zero-mul K.width)
     sized (e ∷ es) ok = length-append e (group_bytes K es) ∙ omega (arith, laws.sized e ok.0, sized es ok.1, suc-mul (length es) K.width)
 
-    pub in_bytes : (es : List (List ℕ)) → All (Lawful K) es → Bytes (group_bytes K es)
+    pub in_bytes : (es : List (List ℕ)) → AllByRecursion (Lawful K) es → Bytes (group_bytes K es)
     unfolding group_bytes
     in_bytes [] ok = tt
     in_bytes (e ∷ es) ok = all_append (λ b. b < 256) e (group_bytes K es) (laws.in_bytes e ok.0) (in_bytes es ok.1)
@@ -91,15 +91,15 @@ module _ (K : Kind) where
   bytes_group n xs h = ap (group_bytes K) (sym (fronted n xs)) ∙ written_read n (take (group_length K n) xs) (length-take-le (group_length K n) xs h)
 
   module _ (laws : Laws K) where
-    pub sized_as : (n : ℕ) (es : List (List ℕ)) → All (Lawful K) es → length es ≡ n → length (group_bytes K es) ≡ group_length K n
+    pub sized_as : (n : ℕ) (es : List (List ℕ)) → AllByRecursion (Lawful K) es → length es ≡ n → length (group_bytes K es) ≡ group_length K n
     sized_as n es ok h = sized laws es ok ∙ ap (group_length K) h
 
-    pub read_as : (n : ℕ) (es : List (List ℕ)) (rest : List ℕ) → All (Lawful K) es → length es ≡ n → group K n (group_bytes K es ++ rest) ≡ es
+    pub read_as : (n : ℕ) (es : List (List ℕ)) (rest : List ℕ) → AllByRecursion (Lawful K) es → length es ≡ n → group K n (group_bytes K es ++ rest) ≡ es
     read_as n es rest ok h = subst (λ j. group K j (group_bytes K es ++ rest) ≡ es) h (read_written laws es rest ok)
 
-    pub read_whole : (n : ℕ) (es : List (List ℕ)) → All (Lawful K) es → length es ≡ n → group K n (group_bytes K es) ≡ es
+    pub read_whole : (n : ℕ) (es : List (List ℕ)) → AllByRecursion (Lawful K) es → length es ≡ n → group K n (group_bytes K es) ≡ es
     read_whole n es ok h = ap (group K n) (sym (append-nil (group_bytes K es))) ∙ read_as n es [] ok h
 
     -- groups of one size with equal bytes are equal
-    pub same_groups : (xs ys : List (List ℕ)) → All (Lawful K) xs → All (Lawful K) ys → length xs ≡ length ys → group_bytes K xs ≡ group_bytes K ys → xs ≡ ys
+    pub same_groups : (xs ys : List (List ℕ)) → AllByRecursion (Lawful K) xs → AllByRecursion (Lawful K) ys → length xs ≡ length ys → group_bytes K xs ≡ group_bytes K ys → xs ≡ ys
     same_groups xs ys okx oky h k = sym (read_whole (length ys) xs okx h) ∙ ap (group K (length ys)) k ∙ read_whole (length ys) ys oky refl

@@ -4,7 +4,7 @@ use mathlib.Core.Path.{fun_ext}
 use lib.ListN.{length-map}
 use lib.Dec.{eqb_refl}
 use Rattle.std.proofs.lemmas.Bool.{eqb-true}
-use Rattle.std.specs.List.{AllByRecursion as All}
+use Rattle.std.specs.List.{AllByRecursion}
 use Rattle.kinds.specs.Kind.{Kind, Lawful, Laws, Bytes}
 use Rattle.locks.specs.Circuit.{Circuit, mus}
 use Rattle.theory.specs.Algebra.{ops_of}
@@ -113,9 +113,9 @@ module _ (long : ℕ) (store : List ℕ) where
     stand : Each (checks long) n size h (λ r p. Stands p)
     stand = all_stand long store H (λ r g k. (ks r g k).0)
 
-    fit : Each (checks long) n size h (λ r p. All (Lawful p.kind) (keys_p r) × Fits (ops_of p.kind) p.lock (keys_p r))
-    fit = each_parsed long store H (λ r p. All (Lawful p.kind) (keys_p r) × Fits (ops_of p.kind) p.lock (keys_p r))
-        (λ r g k. subst (λ x. All (Lawful g.kind) x × Fits (ops_of g.kind) (circuit_in g) x) (sym (keys_is r g k)) ((fits r g k).lawful, (fits r g k).fits))
+    fit : Each (checks long) n size h (λ r p. AllByRecursion (Lawful p.kind) (keys_p r) × Fits (ops_of p.kind) p.lock (keys_p r))
+    fit = each_parsed long store H (λ r p. AllByRecursion (Lawful p.kind) (keys_p r) × Fits (ops_of p.kind) p.lock (keys_p r))
+        (λ r g k. subst (λ x. AllByRecursion (Lawful g.kind) x × Fits (ops_of g.kind) (circuit_in g) x) (sym (keys_is r g k)) ((fits r g k).lawful, (fits r g k).fits))
 
     abbrev cl : ℕ → Branch
     cl = closed_in long store H

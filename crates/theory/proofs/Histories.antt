@@ -1,7 +1,7 @@
 -- A history and its recast: the same calls are accepted, and the same is shown.
 use Rattle.std.proofs.Common.{◌≡◌, ℕ, suc, ◌≤◌, Bool, true, false, cond, eqb, ltb, ◌⊎◌, List, [], ◌∷◌, length, Some, None, Ok, Err, Option, sym, refl, ap, ◌∙◌, subst, ap₂, inl, inr, arith, eqb-true}
 use lib.Dec.{eqb_refl}
-use Rattle.std.specs.List.{AllByRecursion as All}
+use Rattle.std.specs.List.{AllByRecursion}
 use Rattle.faults.specs.declared.Fault.{Fault}
 use Rattle.kinds.specs.Kind.{Lawful, Laws}
 use Rattle.theory.specs.Algebra.{ops_of}
@@ -463,7 +463,7 @@ module _ (ck : Checks) (n size : ℕ) where
       go (b ∷ bs) e = omega (arith, ap length (once_only ck n size (λ _. []) (λ _. blank) h r b bs e))
 
   module _ (tests : Tests ck n size) (h : List Move) (keeps : Each ck n size h (λ r p. Stands p))
-      (keys : ℕ → List (List ℕ)) (fit : Each ck n size h (λ r p. All (Lawful p.kind) (keys r) × Fits (ops_of p.kind) p.lock (keys r))) where
+      (keys : ℕ → List (List ℕ)) (fit : Each ck n size h (λ r p. AllByRecursion (Lawful p.kind) (keys r) × Fits (ops_of p.kind) p.lock (keys r))) where
     abbrev e_of : ℕ → Branch
     e_of r = pick_of ((past ck n size h).opened r)
 

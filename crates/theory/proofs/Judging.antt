@@ -1,6 +1,6 @@
 -- Each call's tests are its rules.
 use Rattle.std.proofs.Common.{◌≡◌, ℕ, zero, suc, ◌<◌, Bool, true, false, cond, ◌⊎◌, List, [], ◌∷◌, ◌++◌, length, get_or, take, Some, None, Ok, Err, Option, Result, sym, refl, ap, ◌∙◌, subst, ap₂, inl, inr, arith}
-use Rattle.std.specs.List.{AllByRecursion as All}
+use Rattle.std.specs.List.{AllByRecursion}
 use Rattle.faults.specs.declared.Fault.{Fault}
 use Rattle.faults.specs.Outcomes.{check, and_then}
 use Rattle.kinds.specs.Kind.{Kind, Lawful, same_row}
@@ -157,7 +157,7 @@ firsts P B at (Some j) to from first back = record {
 
 -- unlawful elements
 UnlawfulAt : Kind → List (List ℕ) → ℕ → Type 0
-UnlawfulAt K es i = (i < length es) × All (Lawful K) (take i es) × (Lawful K (get_or es i []) → ⊥)
+UnlawfulAt K es i = (i < length es) × AllByRecursion (Lawful K) (take i es) × (Lawful K (get_or es i []) → ⊥)
 
 unlawful_first : (K : Kind) (es : List (List ℕ)) (i : ℕ) → unlawful K es ≡ Some i → UnlawfulAt K es i
 unfolding UnlawfulAt
@@ -188,7 +188,7 @@ first_unlawful K (e ∷ es) (suc i) h =
 pub elements : (K : Kind) (at : ℕ → Fault) (es : List (List ℕ)) → Judged (all_lawful K at es ∷ []) tt (first_at (unlawful K es) at)
 unfolding UnlawfulAt
 elements K at es =
-    let j = firsts (All (Lawful K) es) (UnlawfulAt K es) at (unlawful K es) (lawful_all K es) (checked.all_lawful K es) (unlawful_first K es) (first_unlawful K es) in
+    let j = firsts (AllByRecursion (Lawful K) es) (UnlawfulAt K es) at (unlawful K es) (lawful_all K es) (checked.all_lawful K es) (unlawful_first K es) (first_unlawful K es) in
     record {
       accepts = j.accepts;
       accepted = j.accepted;

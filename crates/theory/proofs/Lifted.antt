@@ -3,7 +3,7 @@ use Rattle.std.proofs.Common.{◌≡◌, ℕ, true, List, [], ◌∷◌, map, le
 use mathlib.Core.Path.{fun_ext}
 use mathlib.Core.HLevel.{Σ_prop_path}
 use mathlib.Core.Bool.{Bool-set}
-use Rattle.std.specs.List.{AllByRecursion as All}
+use Rattle.std.specs.List.{AllByRecursion}
 use Rattle.kinds.specs.Kind.{Kind, Lawful, Laws}
 use Rattle.locks.specs.Circuit.{Gate, ac, mc, ad, mu, Output, Circuit}
 use Rattle.theory.specs.Algebra.{Ops, Rules, ops_of}
@@ -46,11 +46,11 @@ module _ {K : Kind} (keeps : Laws K) where
   hom = record { zer_h = refl; add_h = λ x y. refl; neg_h = λ x. refl; mul_h = λ x y. refl }
 
   -- lawful views are elements
-  up : (xs : List (List ℕ)) → All (Lawful K) xs → (ys : List El) × (map bare ys ≡ xs)
+  up : (xs : List (List ℕ)) → AllByRecursion (Lawful K) xs → (ys : List El) × (map bare ys ≡ xs)
   up [] h = ([], refl)
   up (x ∷ xs) h = let r = up xs h.1 in ((x, h.0) ∷ r.0, ap {B = List (List ℕ)} (λ zs. x ∷ zs) r.1)
 
-  down : (ys : List El) → All (Lawful K) (map bare ys)
+  down : (ys : List El) → AllByRecursion (Lawful K) (map bare ys)
   down [] = tt
   down (y ∷ ys) = (y.1, down ys)
 
@@ -60,11 +60,11 @@ module _ {K : Kind} (keeps : Laws K) where
   gate_up (ad a b) h = (ad a b, refl)
   gate_up (mu a b) h = (mu a b, refl)
 
-  gates_up : (gs : List (Gate (List ℕ))) → All (GateLawful K) gs → (gs' : List (Gate El)) × (map (gate_h bare) gs' ≡ gs)
+  gates_up : (gs : List (Gate (List ℕ))) → AllByRecursion (GateLawful K) gs → (gs' : List (Gate El)) × (map (gate_h bare) gs' ≡ gs)
   gates_up [] h = ([], refl)
   gates_up (g ∷ gs) h = let r = gates_up gs h.1 in let q = gate_up g h.0 in (q.0 ∷ r.0, ap₂ {C = List (Gate (List ℕ))} (λ z zs. z ∷ zs) q.1 r.1)
 
-  outs_up : (us : List (Output (List ℕ))) → All (λ u. Lawful K u.target) us → (us' : List (Output El)) × (map (out_h bare) us' ≡ us)
+  outs_up : (us : List (Output (List ℕ))) → AllByRecursion (λ u. Lawful K u.target) us → (us' : List (Output El)) × (map (out_h bare) us' ≡ us)
   outs_up [] h = ([], refl)
   outs_up (u ∷ us) h = let r = outs_up us h.1 in (record { wire = u.wire; target = (u.target, h.0) } ∷ r.0, ap {B = List (Output (List ℕ))} (λ zs. u ∷ zs) r.1)
 
@@ -173,7 +173,7 @@ module _ {K : Kind} (keeps : Laws K) where
       let key : map bare (sum_of els (λ i. (W i).0.wires)) ≡ sum_of (ops_of K) (λ i. (V i).wires) =
       sum_of_h hom (λ i. (W i).0.wires) ∙ ap (sum_of (ops_of K)) (fun_ext (λ i. ap (λ R. R.wires) (W i).1)) in (
         subst (λ (s : Circuit (List ℕ) × List (List ℕ)). Fits (ops_of K) s.0 s.1) (λ i. (l'.1 i, key i)) fit,
-        subst (All (Lawful K)) key (down (sum_of els (λ i. (W i).0.wires))),
+        subst (AllByRecursion (Lawful K)) key (down (sum_of els (λ i. (W i).0.wires))),
       )
 
   accepts_down : (l : Circuit El) (y : Branch → List El) (e : Branch) (A B : View El) → Accepts els l y e A B
@@ -189,7 +189,7 @@ module _ {K : Kind} (keeps : Laws K) where
 
   abbrev Completes : Circuit (List ℕ) → List (List ℕ) → Tape (List ℕ) → Type 0
   Completes l key t = Fits (ops_of K) l key → TapeFor l t
-      → (e : Branch) → Accepts (ops_of K) l (out_shares (ops_of K) l key t) e (view (ops_of K) l key t e) (view (ops_of K) l key t (next e)) × ViewLawful K (view (ops_of K) l key t e) × All (Lawful K) (out_shares (ops_of K) l key t e)
+      → (e : Branch) → Accepts (ops_of K) l (out_shares (ops_of K) l key t) e (view (ops_of K) l key t e) (view (ops_of K) l key t (next e)) × ViewLawful K (view (ops_of K) l key t e) × AllByRecursion (Lawful K) (out_shares (ops_of K) l key t e)
 
   complete_image : (l : Circuit El) (key : List El) (t : Tape El) → Completes (lock_h bare l) (map bare key) (tape_h bare t)
   complete_image l key t fits sized e =
@@ -197,7 +197,7 @@ module _ {K : Kind} (keeps : Laws K) where
         subst (λ (s : (Branch → List (List ℕ)) × View (List ℕ) × View (List ℕ)). Accepts (ops_of K) (lock_h bare l) s.0 e s.1 s.2)
             (λ i. (fun_ext (out_shares_h hom l key t) i, view_of_h hom l key t e i, view_of_h hom l key t (next e) i)) acc,
         subst (ViewLawful K) (view_of_h hom l key t e) (view_down (view els l key t e)),
-        subst (All (Lawful K)) (out_shares_h hom l key t e) (down (out_shares els l key t e)),
+        subst (AllByRecursion (Lawful K)) (out_shares_h hom l key t e) (down (out_shares els l key t e)),
       )
 
   pub complete_on : CompleteOn K

@@ -1,7 +1,7 @@
 -- First messages that agree outside a seal.
 use Rattle.std.proofs.Common.{◌≡◌, ℕ, ◌+◌, ◌-◌, ◌*◌, ◌≤◌, List, [], ◌∷◌, ◌++◌, length, take, drop as skip, sym, refl, ap, ◌∙◌, ap₂, append_assoc, append-nil, arith, length-append, take-take, drop-drop, take_at, drop_at}
 use Rattle.std.proofs.lemmas.List.{drop-take}
-use Rattle.std.specs.List.{AllByRecursion as All}
+use Rattle.std.specs.List.{AllByRecursion}
 use Rattle.kinds.specs.Kind.{Kind, Lawful, Laws}
 use Rattle.locks.specs.Circuit.{Circuit}
 use Rattle.theory.specs.Groups.{group_bytes, group}
@@ -32,7 +32,7 @@ slice_right a o x y h k = sym (outer y) ∙ ap (skip (a - o)) k ∙ outer x
 -- messages of one lock, lawful and sized
 pub record Fit (K : Kind) (l : Circuit (List ℕ)) (d : ℕ) (m : Message) : Type 0 where
   pub sized : (i : Branch) → length (m.outs i) ≡ length l.outputs
-  pub ok : (i : Branch) → All (Lawful K) (m.outs i)
+  pub ok : (i : Branch) → AllByRecursion (Lawful K) (m.outs i)
   pub sealed : (i : Branch) → length (m.seals i) ≡ d
 
 module _ (K : Kind) (l : Circuit (List ℕ)) (keeps : Laws K) (d : ℕ) (m m' : Message) (f : Fit K l d m) (f' : Fit K l d m') where

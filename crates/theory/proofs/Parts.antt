@@ -2,7 +2,7 @@
 use Rattle.std.proofs.Common.{◌≡◌, ℕ, ◌+◌, ◌*◌, ◌≤◌, List, [], ◌∷◌, ◌++◌, length, take, drop, sym, refl, ap, ◌∙◌, ap₂, arith, length-append, length-drop, length-take, take_all, take_at, drop_at}
 use lib.Seq.{drop-append-add}
 use Rattle.std.proofs.lemmas.List.{take-append-drop, length-take-le}
-use Rattle.std.specs.List.{AllByRecursion as All}
+use Rattle.std.specs.List.{AllByRecursion}
 use Rattle.kinds.specs.Groups.{group_length}
 use Rattle.kinds.specs.Kind.{Kind, Lawful, Laws}
 use Rattle.locks.specs.Circuit.{Circuit, mus}
@@ -194,7 +194,7 @@ module _ (K : Kind) (l : Circuit (List ℕ)) where
     pub tape_length : length T ≡ length_of_tape K l
     tape_length = simp length-append (omega (arith, tape_is, bl one, bl two, bl three, ls1, ls2, lm1, lm2, lm3))
 
-  module _ (keeps : Laws K) (d : ℕ) (outs : Branch → List (List ℕ)) (seals : Branch → List ℕ) (sized : (i : Branch) → length (outs i) ≡ length l.outputs) (ok : (i : Branch) → All (Lawful K) (outs i)) (sl : (i : Branch) → length (seals i) ≡ d) where
+  module _ (keeps : Laws K) (d : ℕ) (outs : Branch → List (List ℕ)) (seals : Branch → List ℕ) (sized : (i : Branch) → length (outs i) ≡ length l.outputs) (ok : (i : Branch) → AllByRecursion (Lawful K) (outs i)) (sl : (i : Branch) → length (seals i) ≡ d) where
     abbrev ml : ℕ
     ml = outs_length K l
 

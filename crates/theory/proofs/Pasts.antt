@@ -6,7 +6,7 @@ use Rattle.faults.specs.declared.Reason.{Reason}
 use Rattle.kinds.specs.Kind.{Kind, Lawful, Laws}
 use Rattle.locks.specs.Circuit.{Circuit}
 use Rattle.seals.specs.Sealing.{Sealing}
-use Rattle.std.specs.List.{AllByRecursion as All}
+use Rattle.std.specs.List.{AllByRecursion}
 use Rattle.theory.proofs.Claims.{SameBut}
 use Rattle.theory.specs.Algebra.{ops_of}
 use Rattle.theory.specs.Branches.{Tape, TapeFor, view, out_shares}
@@ -189,7 +189,7 @@ module _ (ck : Checks) (n size : ℕ) where
 
   -- the key and the tape are lawful, and the key fits
   pub record Values (p : Promise) : Type 0 where
-    pub key_lawful : All (Lawful p.kind) p.key
+    pub key_lawful : AllByRecursion (Lawful p.kind) p.key
     pub fits : Fits (ops_of p.kind) p.lock p.key
     pub tape_lawful : TapeLawful p.kind p.tape
     pub tape_for : TapeFor p.lock p.tape
@@ -206,6 +206,6 @@ module _ (ck : Checks) (n size : ℕ) where
   abbrev pub Hidden : Type 0
   Hidden =
       (h : List Move) → Each h (λ r p. Stands p)
-      → (keys : ℕ → List (List ℕ)) → Each h (λ r p. All (Lawful p.kind) (keys r) × Fits (ops_of p.kind) p.lock (keys r))
+      → (keys : ℕ → List (List ℕ)) → Each h (λ r p. AllByRecursion (Lawful p.kind) (keys r) × Fits (ops_of p.kind) p.lock (keys r))
       → (tapes : ℕ → Tape (List ℕ)) × Fine h keys tapes
       × ((tapes' : ℕ → Tape (List ℕ)) → Fine h keys tapes' → Each h (λ r p. (b : Branch) → (past h).opened r ≡ b ∷ [] → tapes' r ≡ tapes r))

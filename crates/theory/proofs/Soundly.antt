@@ -1,7 +1,7 @@
 -- Soundness on bytes.
 use Rattle.std.proofs.Common.{◌≡◌, ℕ, ◌<◌, Bool, true, false, eqb, leb, List, length, Some, None, Ok, Option, Result, sym, refl, ap, ◌∙◌, subst, ap₂, subst₂, inl, inr, arith}
 use Rattle.std.proofs.lemmas.Bool.{eqb-false, eq-eqb, leb-false, le-leb}
-use Rattle.std.specs.List.{AllByRecursion as All}
+use Rattle.std.specs.List.{AllByRecursion}
 use Rattle.faults.specs.declared.Reason.{Reason}
 use Rattle.faults.specs.Numbers.{fault}
 use Rattle.faults.specs.Outcomes.{check}
@@ -76,7 +76,7 @@ module _ (K : Kind) (laws : Laws K) (S : Sealing) (lock fm : List ℕ) (an : Bra
             let back = read_whole K laws l.inputs (key_from K S l an) h.1 h.0.size in
             record {
               size = sized_as K laws l.inputs (key_from K S l an) h.1 h.0.size;
-              lawful = subst (All (Lawful K)) (sym back) h.1;
+              lawful = subst (AllByRecursion (Lawful K)) (sym back) h.1;
               fits = subst (Fits (ops_of K) l) (sym back) h.0;
             })
         | inr h ↦ absurd (h.1 (view_written K l _ (size_of_next h.0) ∙ same h.0 ∙ sym (view_written K l _ (size_of_picked (next h.0)))))

@@ -1,7 +1,7 @@
 -- The verdict is acceptance just when Figure 6 holds.
 use Rattle.std.proofs.Common.{◌≡◌, ℕ, zero, suc, ◌+◌, ◌≤◌, true, List, length, get_or, Some, None, Ok, Option, Result, sym, refl, ap, ◌∙◌, arith, length-drop, length-take}
 use Rattle.std.proofs.lemmas.Bool.{eqb-true, eq-eqb, leb-true, le-leb}
-use Rattle.std.specs.List.{AllByRecursion as All}
+use Rattle.std.specs.List.{AllByRecursion}
 use Rattle.faults.specs.declared.Fault.{Fault}
 use Rattle.faults.specs.Outcomes.{and_then}
 use Rattle.faults.proofs.Passed.{check_ok, then_ok, ok_same, err_ok}
@@ -101,7 +101,7 @@ module _ (K : Kind) (S : Sealing) (l : Circuit (List ℕ)) where
     -- what no fault 15 to 20 says
     pub record Fair : Type 0 where
       pub first_mark : marked 70 77 fm ≡ true
-      pub outs_lawful : (i : Branch) → All (Lawful K) (outs_in K l fm i)
+      pub outs_lawful : (i : Branch) → AllByRecursion (Lawful K) (outs_in K l fm i)
       pub answer_mark : marked 65 78 an ≡ true
       pub answer_pick : get_or an 2 0 ≡ pick_byte e
       pub passes : Passes K S l y z e (view_of K l va) (view_of K l vb)
@@ -152,7 +152,7 @@ module _ (K : Kind) (S : Sealing) (l : Circuit (List ℕ)) where
           };
         }
       where
-        each : All (Lawful K) (y one) → All (Lawful K) (y two) → All (Lawful K) (y three) → (i : Branch) → All (Lawful K) (outs_in K l fm i)
+        each : AllByRecursion (Lawful K) (y one) → AllByRecursion (Lawful K) (y two) → AllByRecursion (Lawful K) (y three) → (i : Branch) → AllByRecursion (Lawful K) (outs_in K l fm i)
         each a b c one = a
         each a b c two = b
         each a b c three = c

@@ -1,6 +1,6 @@
 -- The worked example over any sealer.
 use Rattle.std.proofs.Common.{◌≡◌, ℕ, ◌+◌, ◌-◌, ◌*◌, ◌^◌, ◌<◌, ◌≤◌, Bool, true, false, eqb, List, [], ◌∷◌, length, take, replicate, Some, None, Ok, Err, Result, sym, refl, ap, ◌∙◌, subst, arith}
-use Rattle.std.specs.List.{AllByRecursion as All}
+use Rattle.std.specs.List.{AllByRecursion}
 use Rattle.faults.specs.declared.Fault.{Fault}
 use Rattle.faults.specs.declared.Reason.{Reason}
 use Rattle.faults.specs.Numbers.{fault, fault_in}
@@ -154,7 +154,7 @@ module _ (S : Sealing) (sound : Sound S) (long : 48 ≤ S.longest) where
   unfolding gates_from outputs_from group group_bytes
   fit_1 = record { sized = λ i. refl; ok = ok; sealed = λ i. sound.sized _ }
     where
-      ok : (i : Branch) → All (Lawful word_kind) (own_outs (with_key S 3 4 50) i)
+      ok : (i : Branch) → AllByRecursion (Lawful word_kind) (own_outs (with_key S 3 4 50) i)
       ok one = (refl, tt)
       ok two = (refl, tt)
       ok three = (refl, tt)
@@ -163,7 +163,7 @@ module _ (S : Sealing) (sound : Sound S) (long : 48 ≤ S.longest) where
   unfolding gates_from outputs_from group group_bytes
   fit_2 = record { sized = λ i. refl; ok = ok; sealed = λ i. sound.sized _ }
     where
-      ok : (i : Branch) → All (Lawful word_kind) (own_outs (with_key S 1 12 54) i)
+      ok : (i : Branch) → AllByRecursion (Lawful word_kind) (own_outs (with_key S 1 12 54) i)
       ok one = (refl, tt)
       ok two = (refl, tt)
       ok three = (refl, tt)
@@ -193,7 +193,7 @@ module _ (S : Sealing) (sound : Sound S) (long : 48 ≤ S.longest) where
   forged_sized two = refl
   forged_sized three = refl
 
-  forged_lawful : (i : Branch) → All (Lawful word_kind) (forged_outs S i)
+  forged_lawful : (i : Branch) → AllByRecursion (Lawful word_kind) (forged_outs S i)
   forged_lawful one = (refl, tt)
   forged_lawful two = (refl, tt)
   forged_lawful three = (refl, tt)
@@ -204,7 +204,7 @@ module _ (S : Sealing) (sound : Sound S) (long : 48 ≤ S.longest) where
   first_size : length (forged_first S) ≡ 14 + 3 * S.size
   first_size = first_length word_kind c18 word_laws S.size (forged_outs S) (λ i. S.seal (forged_view S i)) forged_sized forged_lawful forged_long
 
-  outs_read_lawful : (i : Branch) → All (Lawful word_kind) (Rattle.theory.specs.Messages.outs_in word_kind c18 (forged_first S) i)
+  outs_read_lawful : (i : Branch) → AllByRecursion (Lawful word_kind) (Rattle.theory.specs.Messages.outs_in word_kind c18 (forged_first S) i)
   unfolding group group_bytes
   outs_read_lawful one = (refl, tt)
   outs_read_lawful two = (refl, tt)

@@ -1,6 +1,6 @@
 -- Keys, views, tapes, first messages and answers as bytes, and back.
 use Rattle.std.specs.Prelude.{◌≡◌, ℕ, zero, suc, ◌+◌, ◌*◌, List, [], ◌∷◌, ◌++◌, length, take, drop, Some, None, Option}
-use Rattle.std.specs.List.{AllByRecursion as All}
+use Rattle.std.specs.List.{AllByRecursion}
 use Rattle.kinds.specs.Kind.{Kind, Laws, Lawful}
 use Rattle.kinds.specs.Groups.{group_length}
 use Rattle.locks.specs.Circuit.{Circuit, mus}
@@ -162,7 +162,7 @@ pub record MessageLaws (K : Kind) (l : Circuit (List ℕ)) : Type 0 where
       → (tape_of K l (tape_bytes K l blind t) ≡ t) × ((i : Branch) → blind_in K l (tape_bytes K l blind t) i ≡ blind i)
       × (length (tape_bytes K l blind t) ≡ length_of_tape K l)
   pub first_read : Laws K → (d : ℕ) (outs : Branch → List (List ℕ)) (seals : Branch → List ℕ)
-      → ((i : Branch) → length (outs i) ≡ length l.outputs) → ((i : Branch) → All (Lawful K) (outs i)) → ((i : Branch) → length (seals i) ≡ d)
+      → ((i : Branch) → length (outs i) ≡ length l.outputs) → ((i : Branch) → AllByRecursion (Lawful K) (outs i)) → ((i : Branch) → length (seals i) ≡ d)
       → ((i : Branch) → outs_in K l (first_bytes K outs seals) i ≡ outs i) × ((i : Branch) → seal_in K l d (first_bytes K outs seals) i ≡ seals i)
       × (length (first_bytes K outs seals) ≡ length_of_first K l d)
   pub answer_read : (e : Branch) (a b : List ℕ) → length a ≡ length_of_view K l → length b ≡ length_of_view K l

@@ -1,7 +1,7 @@
 -- Which condition each fault of each call stands for: the rules in their order, as statements. A call is accepted exactly when all rules
 -- are kept; it refuses by the fault of the first that is broken.
 use Rattle.std.specs.Prelude.{◌≡◌, ℕ, suc, ◌+◌, ◌*◌, ◌<◌, ◌≤◌, true, ◌⊎◌, List, [], ◌∷◌, ◌++◌, length, take, Some, None, Ok, Err, Result, ◌≢◌, slice_index, slice_index_or}
-use Rattle.std.specs.List.{AllByRecursion as All}
+use Rattle.std.specs.List.{AllByRecursion}
 use Rattle.faults.specs.declared.Fault.{Fault}
 use Rattle.faults.specs.declared.Reason.{Reason}
 use Rattle.faults.specs.Numbers.{fault, fault_in}
@@ -47,8 +47,8 @@ must P f = record { kept = P; broken = λ g. (P → ⊥) × (g ≡ f) }
 -- all elements are lawful; the first unlawful one tells its place
 abbrev pub all_lawful : Kind → (ℕ → Fault) → List (List ℕ) → Rule Fault
 all_lawful K at es = record {
-  kept = All (Lawful K) es;
-  broken = λ f. (i : ℕ) × (i < length es) × All (Lawful K) (take i es) × (Lawful K (slice_index_or es i []) → ⊥) × (f ≡ at i);
+  kept = AllByRecursion (Lawful K) es;
+  broken = λ f. (i : ℕ) × (i < length es) × AllByRecursion (Lawful K) (take i es) × (Lawful K (slice_index_or es i []) → ⊥) × (f ≡ at i);
 }
 
 -- two lists of rows are equal; the first difference tells its place

@@ -1,6 +1,6 @@
 -- Soundness: three accepted answers to one first message give a fitting key, or two views with one seal.
 use Rattle.std.specs.Prelude.{◌≡◌, ℕ, ◌<◌, List, length, take, Ok, Err, Result, ◌≢◌, slice_index}
-use Rattle.std.specs.List.{AllByRecursion as All}
+use Rattle.std.specs.List.{AllByRecursion}
 use Rattle.faults.specs.declared.Reason.{Reason}
 use Rattle.faults.specs.Numbers.{fault}
 use Rattle.kinds.specs.Kind.{Kind, Laws, Lawful}
@@ -18,7 +18,7 @@ use Rattle.theory.specs.Extraction.{beside, copy, second_copy, extracted, key_af
 -- these bytes are a key that fits
 pub record KeyFits (K : Kind) (l : Circuit (List ℕ)) (ks : List ℕ) : Type 0 where
   pub size : length ks ≡ length_of_key K l
-  pub lawful : All (Lawful K) (key_of K l ks)
+  pub lawful : AllByRecursion (Lawful K) (key_of K l ks)
   pub fits : Fits (ops_of K) l (key_of K l ks)
 
 -- two byte lists differ, first at offset o

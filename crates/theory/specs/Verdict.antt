@@ -1,6 +1,6 @@
 -- What verify answers, with all its faults in their order; and the same as a relation, Figure 6 of the ZKBoo paper.
 use Rattle.std.specs.Prelude.{◌≡◌, ℕ, suc, ◌+◌, ◌≤◌, Bool, true, cond, List, [], ◌∷◌, length, Some, None, Ok, Err, Option, Result, ◌==◌, nat_le, slice_index, slice_index_or}
-use Rattle.std.specs.List.{AllByRecursion as All}
+use Rattle.std.specs.List.{AllByRecursion}
 use Rattle.faults.specs.declared.Fault.{Fault}
 use Rattle.faults.specs.declared.Reason.{Reason}
 use Rattle.faults.specs.Numbers.{fault, fault_in}
@@ -113,7 +113,7 @@ pub record Accepted (K : Kind) (S : Sealing) (lock fm : List ℕ) (e : Branch) (
   pub work1_size : length_of_work K l ≤ work1
   pub work2_size : length_of_work K l ≤ work2
   pub first_mark : marked 70 77 fm ≡ true
-  pub outs_lawful : (i : Branch) → All (Lawful K) (outs_in K l fm i)
+  pub outs_lawful : (i : Branch) → AllByRecursion (Lawful K) (outs_in K l fm i)
   pub answer_mark : marked 65 78 an ≡ true
   pub answer_pick : slice_index_or an 2 0 ≡ pick_byte e
   pub passes : Passes K S l (outs_in K l fm) (seal_in K l S.size fm) e (view_of K l (picked_view K l an)) (view_of K l (next_view K l an))

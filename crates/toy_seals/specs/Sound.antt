@@ -1,7 +1,7 @@
 -- The sealers' law, and the seal of no byte.
 use Rattle.std.specs.Prelude.{◌≡◌, ℕ, zero, suc, ◌<◌, ◌≤◌, List, [], ◌∷◌, length, replicate, refl}
 use Rattle.std.proofs.Common.{arith}
-use Rattle.std.specs.List.{AllByRecursion as All}
+use Rattle.std.specs.List.{AllByRecursion}
 use Rattle.std.proofs.lemmas.List.{length-replicate}
 use Rattle.seals.specs.Sealing.{Sound}
 use Rattle.toy_seals.specs.Toy.{last_of, toy}
@@ -10,7 +10,7 @@ pub last_of_none : (m : List ℕ) → length m ≡ 0 → 0 ≡ last_of m
 last_of_none [] h = refl
 last_of_none (x ∷ xs) h = omega arith
 
-all_alike : (P : ℕ → Type 0) (n x : ℕ) → P x → All P (replicate n x)
+all_alike : (P : ℕ → Type 0) (n x : ℕ) → P x → AllByRecursion P (replicate n x)
 all_alike P zero x h = tt
 all_alike P (suc n) x h = (h, all_alike P n x h)
 

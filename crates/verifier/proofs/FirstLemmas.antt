@@ -1,6 +1,6 @@
 -- Where the parts of a first message lie.
 use Rattle.std.proofs.Common.{◌≡◌, ℕ, ◌+◌, ◌*◌, ◌≤◌, List, length, drop, sym, subst, arith}
-use Rattle.std.specs.List.{AllByRecursion as All}
+use Rattle.std.specs.List.{AllByRecursion}
 use Rattle.kinds.specs.Kind.{Kind, Lawful}
 use Rattle.kinds.specs.Groups.{group_length}
 use Rattle.locks.specs.Circuit.{Circuit}
@@ -34,8 +34,8 @@ module _ (K : Kind) (l : Circuit (List ℕ)) (fm : List ℕ) (m : ℕ) (count : 
   pub shares_are : (i : Branch) → shares_on K m s i ≡ outs_in K l fm i
   shares_are i = λ t. group K (sym count t) (are i t)
 
-  pub shares_open : ((i : Branch) → group_length K m ≤ length (bytes_on s i)) → ((i : Branch) → All (Lawful K) (outs_in K l fm i)) → SharesOpen K m s
-  shares_open room ok = record { room = room; lawful = λ i. subst (All (Lawful K)) (sym (shares_are i)) (ok i) }
+  pub shares_open : ((i : Branch) → group_length K m ≤ length (bytes_on s i)) → ((i : Branch) → AllByRecursion (Lawful K) (outs_in K l fm i)) → SharesOpen K m s
+  shares_open room ok = record { room = room; lawful = λ i. subst (AllByRecursion (Lawful K)) (sym (shares_are i)) (ok i) }
 
   pub sums_are : sum_of (ops_of K) (shares_on K m s) ≡ sum_of (ops_of K) (outs_in K l fm)
   sums_are = λ t. sum (ops_of K) (sum (ops_of K) (shares_are one t) (shares_are two t)) (shares_are three t)

@@ -1,6 +1,6 @@
 -- Two branches rerun together, a gate at a time: what is left gives the whole.
 use Rattle.std.proofs.Common.{◌≡◌, ℕ, suc, ◌+◌, ◌-◌, ◌*◌, ◌<◌, ◌≤◌, Bool, true, false, cond, List, [], ◌∷◌, ◌++◌, drop, Some, None, Ok, Option, sym, refl, ap, ◌∙◌, subst, mul-le-mul_right, arith}
-use Rattle.std.specs.List.{AllByRecursion as All}
+use Rattle.std.specs.List.{AllByRecursion}
 use Rattle.kinds.specs.Kind.{Kind, Laws, Lawful, same_row}
 use Rattle.kinds.proofs.Same.{same_refl}
 use Rattle.locks.specs.Circuit.{Gate, ac, mc, ad, mu, mus}
@@ -52,7 +52,7 @@ Grown K i m v own work work' q g = wires_in K (suc own) work' ≡ (step (ops_of 
 -- one branch
 pub record One (K : Kind) (i : Branch) (inputs count j : ℕ) (s : Standing) (m : ℕ) (v : ViewParts) (work : List ℕ) (q : ℕ) (whole : List (List ℕ)) : Type 0 where
   pub runs : rerun (ops_of K) i (gates_at K (count - j) s) (view_at K m v (inputs + j) work q) ≡ whole
-  pub lawful : All (Lawful K) (wires_in K (inputs + j) work)
+  pub lawful : AllByRecursion (Lawful K) (wires_in K (inputs + j) work)
 
 -- both, and the first wrong wire
 pub record Both (K : Kind) (i n : Branch) (inputs count j : ℕ) (s : Standing) (m : ℕ) (v nv : ViewParts) (work nwork : List ℕ) (q : ℕ) (wrong : Option ℕ)
@@ -71,15 +71,15 @@ module _ (K : Kind) (inputs count : ℕ) (s : Standing) (m : ℕ) where
   same_count : count ≡ count - 0
   same_count = omega arith
 
-  one_start : (i : Branch) (v : ViewParts) (work : List ℕ) → All (Lawful K) (wires_in K inputs work)
+  one_start : (i : Branch) (v : ViewParts) (work : List ℕ) → AllByRecursion (Lawful K) (wires_in K inputs work)
       → One K i inputs count 0 s m v work 0 (rerun (ops_of K) i (gates_at K count s) (view_at K m v inputs work 0))
   one_start i v work l = record {
     runs = sym (λ x. rerun (ops_of K) i (gates_at K (same_count x) s) (view_at K m v (same_own x) work 0));
-    lawful = subst (λ (n : ℕ). All (Lawful K) (wires_in K n work)) same_own l;
+    lawful = subst (λ (n : ℕ). AllByRecursion (Lawful K) (wires_in K n work)) same_own l;
   }
 
   pub both_start : (i n : Branch) (v nv : ViewParts) (work nwork : List ℕ) → GatesStand K count inputs s → mus (gates_at K count s) ≤ m
-      → All (Lawful K) (wires_in K inputs work) → All (Lawful K) (wires_in K inputs nwork)
+      → AllByRecursion (Lawful K) (wires_in K inputs work) → AllByRecursion (Lawful K) (wires_in K inputs nwork)
       → Both K i n inputs count 0 s m v nv work nwork 0 None
       (rerun (ops_of K) i (gates_at K count s) (view_at K m v inputs work 0)) (rerun (ops_of K) n (gates_at K count s) (view_at K m nv inputs nwork 0))
       (wrong_product K i n inputs (gates_at K count s) (view_at K m v inputs work 0) (view_at K m nv inputs nwork 0))
@@ -125,7 +125,7 @@ module _ (K : Kind) (laws : Laws K) (inputs count j : ℕ) (s : Standing) (m q :
       record {
         runs = ap (rerun (ops_of K) i left) (view_step i v work work' e)
             ∙ ap (λ (gs : List (Gate (List ℕ))). rerun (ops_of K) i gs (view_at K m v (inputs + j) work q)) (sym here) ∙ l.runs;
-        lawful = subst (All (Lawful K)) (sym grown) (all_snoc (Lawful K) old (local (ops_of K) i old p g) l.lawful wire);
+        lawful = subst (AllByRecursion (Lawful K)) (sym grown) (all_snoc (Lawful K) old (local (ops_of K) i old p g) l.lawful wire);
       }
 
   pub both_next : (i n : Branch) (v nv : ViewParts) (work nwork work' nwork' : List ℕ) (wrong wrong' : Option ℕ) (b : Bool) (whole nwhole : List (List ℕ)) (all : Option ℕ) (t : Standing) (q' : ℕ)
@@ -163,8 +163,8 @@ module _ (K : Kind) (inputs count j : ℕ) (s : Standing) (m : ℕ) (done : j �
       ap (λ (n : ℕ). wires_in K (inputs + n) work) (sym done)
       ∙ ap (λ (gs : List (Gate (List ℕ))). rerun (ops_of K) i gs (view_at K m v (inputs + j) work q)) (sym (gates_done K count j s done)) ∙ l.runs
 
-  pub lawful_end : (i : Branch) (v : ViewParts) (work : List ℕ) (q : ℕ) (whole : List (List ℕ)) → One K i inputs count j s m v work q whole → All (Lawful K) (wires_in K (inputs + count) work)
-  lawful_end i v work q whole l = subst (λ (n : ℕ). All (Lawful K) (wires_in K (inputs + n) work)) done l.lawful
+  pub lawful_end : (i : Branch) (v : ViewParts) (work : List ℕ) (q : ℕ) (whole : List (List ℕ)) → One K i inputs count j s m v work q whole → AllByRecursion (Lawful K) (wires_in K (inputs + count) work)
+  lawful_end i v work q whole l = subst (λ (n : ℕ). AllByRecursion (Lawful K) (wires_in K (inputs + n) work)) done l.lawful
 
   pub told_end : (i n : Branch) (v nv : ViewParts) (work nwork : List ℕ) (q : ℕ) (wrong : Option ℕ) (whole nwhole : List (List ℕ)) (all : Option ℕ)
       → Both K i n inputs count j s m v nv work nwork q wrong whole nwhole all → wrong ≡ all

@@ -1,6 +1,6 @@
 -- From the checks one by one to the verdict.
 use Rattle.std.proofs.Common.{◌≡◌, ℕ, ◌+◌, eqb, List, get_or, Ok, ◌∙◌}
-use Rattle.std.specs.List.{AllByRecursion as All}
+use Rattle.std.specs.List.{AllByRecursion}
 use Rattle.faults.specs.declared.Reason.{Reason}
 use Rattle.faults.proofs.Passed.{check_ok}
 use Rattle.kinds.specs.Kind.{Kind, Lawful}
@@ -28,11 +28,11 @@ view_is K k m v work A parts e = (λ t. record { wires = e t; masks = group K m 
 
 module _ (K : Kind) (S : Sealing) (l : Circuit (List ℕ)) where
   -- well-formed messages have lawful elements
-  first_lawful : (fm : List ℕ) → first_formed K S l fm ≡ Ok tt → (i : Branch) → All (Lawful K) (outs_in K l fm i)
+  first_lawful : (fm : List ℕ) → first_formed K S l fm ≡ Ok tt → (i : Branch) → AllByRecursion (Lawful K) (outs_in K l fm i)
   first_lawful fm h =
       let p = both_ok (lawful_at K Reason.MalformedFirstMessage (outs_at K l one) (outs_in K l fm one)) _ (check_ok (marked 70 77 fm) _ _ tt h).1 in
       let q = both_ok (lawful_at K Reason.MalformedFirstMessage (outs_at K l two) (outs_in K l fm two)) _ p.1 in
-      each (λ i. All (Lawful K) (outs_in K l fm i)) (group_ok K _ _ (outs_in K l fm one) p.0) (group_ok K _ _ (outs_in K l fm two) q.0) (group_ok K _ _ (outs_in K l fm three) q.1)
+      each (λ i. AllByRecursion (Lawful K) (outs_in K l fm i)) (group_ok K _ _ (outs_in K l fm one) p.0) (group_ok K _ _ (outs_in K l fm two) q.0) (group_ok K _ _ (outs_in K l fm three) q.1)
 
   view_lawful : (at : ℕ) (A : View (List ℕ)) → view_formed K S l at A ≡ Ok tt → ViewLawful K A
   view_lawful at A h =

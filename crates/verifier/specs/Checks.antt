@@ -1,6 +1,6 @@
 -- The checks of a verdict one by one, as the code makes them.
 use Rattle.std.specs.Prelude.{ℕ, Bool, List, Ok, ◌==◌, nat_le}
-use Rattle.std.specs.List.{AllByRecursion as All}
+use Rattle.std.specs.List.{AllByRecursion}
 use Rattle.faults.specs.declared.Reason.{Reason}
 use Rattle.faults.specs.Numbers.{fault, fault_in}
 use Rattle.faults.specs.Outcomes.{check}
@@ -54,6 +54,6 @@ module _ (K : Kind) (l : Circuit (List ℕ)) (fm : List ℕ) where
 
   -- all elements of the messages are lawful
   pub record Formed (an : List ℕ) : Type 0 where
-    pub outs_lawful : (i : Branch) → All (Lawful K) (outs_in K l fm i)
+    pub outs_lawful : (i : Branch) → AllByRecursion (Lawful K) (outs_in K l fm i)
     pub picked_lawful : ViewLawful K (view_of K l (picked_view K l an)).1
     pub next_lawful : ViewLawful K (view_of K l (next_view K l an)).1

@@ -1,6 +1,6 @@
 -- The output shares of the three branches, as the code holds them.
 use Rattle.std.specs.Prelude.{ℕ, ◌≤◌, List, length}
-use Rattle.std.specs.List.{AllByRecursion as All}
+use Rattle.std.specs.List.{AllByRecursion}
 use Rattle.kinds.specs.Kind.{Kind, Lawful}
 use Rattle.kinds.specs.Groups.{group_length}
 use Rattle.theory.specs.declared.Branch.{Branch}
@@ -18,4 +18,4 @@ shares_on K m s i = group K m (bytes_on s i)
 -- they are there and lawful
 pub record SharesOpen (K : Kind) (m : ℕ) (s : Shares) : Type 0 where
   pub room : (i : Branch) → group_length K m ≤ length (bytes_on s i)
-  pub lawful : (i : Branch) → All (Lawful K) (shares_on K m s i)
+  pub lawful : (i : Branch) → AllByRecursion (Lawful K) (shares_on K m s i)

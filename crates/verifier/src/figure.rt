@@ -1,6 +1,6 @@
 // The checks of Figure 6 of the ZKBoo paper, on messages whose elements are lawful.
 ghost use Rattle.std.specs.Prelude.{◌≡◌, ◌+◌, ◌≤◌, length, Some, None};
-ghost use Rattle.std.specs.List.{AllByRecursion as All};
+ghost use Rattle.std.specs.List.{AllByRecursion};
 ghost use Rattle.faults.specs.Numbers.{fault_in};
 ghost use Rattle.faults.specs.declared.Reason.{Reason};
 ghost use Rattle.kinds.specs.Kind.{Lawful};
@@ -43,7 +43,7 @@ fn first_wrong(wrong: Option<usize>, branch: Branch, reason: Reason) -> Result<(
 fn targets_met<K: ElementKind, S: Sealer>(lock: Lock<'_>, first: &[u8]) -> Result<(), Fault>
     requires stands { Stands K.kind lock }
     requires sized { length first.now ≡ first_length K.kind lock.outputs S.sealing.size }
-    requires formed { (i : AnyBranch) → All (Lawful K.kind) (outs_in K.kind (circuit_of K.kind lock) first.now i) }
+    requires formed { (i : AnyBranch) → AllByRecursion (Lawful K.kind) (outs_in K.kind (circuit_of K.kind lock) first.now i) }
     ensures { result ≡ targets_met K.kind (circuit_of K.kind lock.entry) first.now }
 {
     let shares = Shares {
@@ -66,9 +66,9 @@ fn gives_shares<K: ElementKind, S: Sealer>(
 ) -> Result<(), Fault>
     requires stands { Stands K.kind lock }
     requires sized { length first.now ≡ first_length K.kind lock.outputs S.sealing.size }
-    requires formed { All (Lawful K.kind) (outs_in K.kind (circuit_of K.kind lock) first.now (the_branch branch)) }
+    requires formed { AllByRecursion (Lawful K.kind) (outs_in K.kind (circuit_of K.kind lock) first.now (the_branch branch)) }
     requires room { work_length K.kind lock.inputs lock.gates ≤ length work.now }
-    requires lawful { All (Lawful K.kind) (wires_in K.kind (lock.inputs + lock.gates) work.now) }
+    requires lawful { AllByRecursion (Lawful K.kind) (wires_in K.kind (lock.inputs + lock.gates) work.now) }
     ensures { result ≡ gives_shares K.kind (circuit_of K.kind lock.entry) first.now (the_branch branch) (wires_in K.kind (lock.entry.inputs + lock.entry.gates) work.now) }
 {
     let wrong = wrong_share::<K>(lock, work, shares_of::<K, S>(lock, first, branch));
@@ -89,7 +89,7 @@ fn runs_hold<'a, K: ElementKind, S: Sealer>(
     requires firstsized { length first.now ≡ first_length K.kind lock.outputs S.sealing.size }
     requires sized { length picked.now ≡ view_length K.kind lock.inputs lock.products }
     requires nextsized { length following.now ≡ view_length K.kind lock.inputs lock.products }
-    requires outs { (i : AnyBranch) → All (Lawful K.kind) (outs_in K.kind (circuit_of K.kind lock) first.now i) }
+    requires outs { (i : AnyBranch) → AllByRecursion (Lawful K.kind) (outs_in K.kind (circuit_of K.kind lock) first.now i) }
     requires formed { ViewLawful K.kind (view_of K.kind (circuit_of K.kind lock) picked.now).1 }
     requires nextformed { ViewLawful K.kind (view_of K.kind (circuit_of K.kind lock) following.now).1 }
     requires room { work_length K.kind lock.inputs lock.gates ≤ length work.old }
@@ -118,7 +118,7 @@ fn opened_right<'a, K: ElementKind, S: Sealer>(
     requires firstsized { length first.now ≡ first_length K.kind lock.outputs S.sealing.size }
     requires sized { length picked.now ≡ view_length K.kind lock.inputs lock.products }
     requires nextsized { length following.now ≡ view_length K.kind lock.inputs lock.products }
-    requires outs { (i : AnyBranch) → All (Lawful K.kind) (outs_in K.kind (circuit_of K.kind lock) first.now i) }
+    requires outs { (i : AnyBranch) → AllByRecursion (Lawful K.kind) (outs_in K.kind (circuit_of K.kind lock) first.now i) }
     requires formed { ViewLawful K.kind (view_of K.kind (circuit_of K.kind lock) picked.now).1 }
     requires nextformed { ViewLawful K.kind (view_of K.kind (circuit_of K.kind lock) following.now).1 }
     requires room { work_length K.kind lock.inputs lock.gates ≤ length work1.old }

@@ -1,6 +1,6 @@
 // Output shares: do they sum to the targets, and do the branches give them?
 ghost use Rattle.std.specs.Prelude.{◌≡◌, ◌+◌, ◌*◌, ◌<◌, ◌≤◌, length};
-ghost use Rattle.std.specs.List.{AllByRecursion as All};
+ghost use Rattle.std.specs.List.{AllByRecursion};
 ghost use Rattle.kinds.specs.Kind.{Lawful, same_row};
 ghost use Rattle.kinds.specs.Groups.{group_length};
 ghost use Rattle.locks.specs.Model.{output_of};
@@ -75,9 +75,9 @@ fn gives_share<K: ElementKind>(
 ) -> bool
     requires wire { (output_of output).wire < wires }
     requires within { wires * K.kind.width ≤ length work.now }
-    requires lawful { All (Lawful K.kind) (wires_in K.kind wires work.now) }
+    requires lawful { AllByRecursion (Lawful K.kind) (wires_in K.kind wires work.now) }
     requires room { group_length K.kind m ≤ length shares.now }
-    requires shared { All (Lawful K.kind) (group K.kind m shares.now) }
+    requires shared { AllByRecursion (Lawful K.kind) (group K.kind m shares.now) }
     requires below { j < m }
     ensures { result ≡ same_row (read (ops_of K.kind) (wires_in K.kind wires work.now) (output_of output.entry).wire) (read (ops_of K.kind) (group K.kind m shares.now) j) }
 {
@@ -92,9 +92,9 @@ pub(crate) fn wrong_share<K: ElementKind>(
 ) -> Option<usize>
     requires stands { Stands K.kind lock }
     requires within { (lock.inputs + lock.gates) * K.kind.width ≤ length work.now }
-    requires lawful { All (Lawful K.kind) (wires_in K.kind (lock.inputs + lock.gates) work.now) }
+    requires lawful { AllByRecursion (Lawful K.kind) (wires_in K.kind (lock.inputs + lock.gates) work.now) }
     requires room { group_length K.kind lock.outputs ≤ length shares.now }
-    requires shared { All (Lawful K.kind) (group K.kind lock.outputs shares.now) }
+    requires shared { AllByRecursion (Lawful K.kind) (group K.kind lock.outputs shares.now) }
     ensures { result ≡ unlike (at_outputs (ops_of K.kind) (circuit_of K.kind lock.entry).outputs (wires_in K.kind (lock.entry.inputs + lock.entry.gates) work.now)) (group K.kind lock.entry.outputs shares.now) }
 {
     let mut reader = outputs_reader::<K>(lock);

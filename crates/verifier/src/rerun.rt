@@ -1,6 +1,6 @@
 // The rerun of two opened branches, in one pass over the gates.
 ghost use Rattle.std.specs.Prelude.{◌≡◌, suc, ◌+◌, ◌*◌, ◌≤◌, [], ◌∷◌, length, if◌then◌else◌, Some, None};
-ghost use Rattle.std.specs.List.{AllByRecursion as All};
+ghost use Rattle.std.specs.List.{AllByRecursion};
 ghost use Rattle.kinds.specs.Kind.{Lawful, same_row};
 ghost use Rattle.kinds.specs.Groups.{group_length};
 ghost use Rattle.locks.specs.Encoding.{GateFor};
@@ -35,7 +35,7 @@ pub(crate) struct Pair<'a> {
 // Element q of a group if the gate is a product, else zero.
 fn taken<K: ElementKind>(gate: GateRecord<'_>, bytes: &[u8], count: usize, q: usize) -> K
     requires room { group_length K.kind count ≤ length bytes.now }
-    requires lawful { All (Lawful K.kind) (group K.kind count bytes.now) }
+    requires lawful { AllByRecursion (Lawful K.kind) (group K.kind count bytes.now) }
     requires some { q + has (gate_of gate) ≤ count }
     ensures { K.ElementKind.row result ≡ taken K.kind (gate_of gate.entry) (read (ops_of K.kind) (group K.kind count bytes.now) q) }
 {
@@ -71,8 +71,8 @@ fn product_right<K: ElementKind>(
     requires some { q + has (gate_of gate) ≤ pair.count }
     requires within { own * K.kind.width ≤ length work.now }
     requires nextwithin { own * K.kind.width ≤ length next_work.now }
-    requires lawful { All (Lawful K.kind) (wires_in K.kind own work.now) }
-    requires nextlawful { All (Lawful K.kind) (wires_in K.kind own next_work.now) }
+    requires lawful { AllByRecursion (Lawful K.kind) (wires_in K.kind own work.now) }
+    requires nextlawful { AllByRecursion (Lawful K.kind) (wires_in K.kind own next_work.now) }
     ensures { result ≡ same_row (K.ElementKind.row product) (right (ops_of K.kind) (gate_of gate.entry) (wires_in K.kind own work.now) (taken K.kind (gate_of gate.entry) (first_mask K.kind pair.entry q) ∷ []) (wires_in K.kind own next_work.now) (taken K.kind (gate_of gate.entry) (second_mask K.kind pair.entry q) ∷ [])) }
 {
     let mask: K = taken(gate, pair.view.masks, pair.count, q);
@@ -94,8 +94,8 @@ fn pair_gate<K: ElementKind>(
     requires some { q + has (gate_of gate) ≤ pair.count }
     requires within { suc own * K.kind.width ≤ length work.old }
     requires nextwithin { suc own * K.kind.width ≤ length next_work.old }
-    requires lawful { All (Lawful K.kind) (wires_in K.kind own work.old) }
-    requires nextlawful { All (Lawful K.kind) (wires_in K.kind own next_work.old) }
+    requires lawful { AllByRecursion (Lawful K.kind) (wires_in K.kind own work.old) }
+    requires nextlawful { AllByRecursion (Lawful K.kind) (wires_in K.kind own next_work.old) }
     ensures right { result ≡ is_right K.kind (gate_of gate.entry) (first_view K.kind pair.entry own work.old q) (second_view K.kind pair.entry own next_work.old q) }
     ensures grown { wires_in K.kind (suc own) work.new ≡ (step (ops_of K.kind) (first_of pair.entry) (gate_of gate.entry) (first_view K.kind pair.entry own work.old q)).wires }
     ensures nextgrown { wires_in K.kind (suc own) next_work.new ≡ (step (ops_of K.kind) (second_of pair.entry) (gate_of gate.entry) (second_view K.kind pair.entry own next_work.old q)).wires }
@@ -120,13 +120,13 @@ pub(crate) fn rerun<K: ElementKind>(
     requires counted { pair.count ≡ lock.products }
     requires within { (lock.inputs + lock.gates) * K.kind.width ≤ length work.old }
     requires nextwithin { (lock.inputs + lock.gates) * K.kind.width ≤ length next_work.old }
-    requires lawful { All (Lawful K.kind) (wires_in K.kind lock.inputs work.old) }
-    requires nextlawful { All (Lawful K.kind) (wires_in K.kind lock.inputs next_work.old) }
+    requires lawful { AllByRecursion (Lawful K.kind) (wires_in K.kind lock.inputs work.old) }
+    requires nextlawful { AllByRecursion (Lawful K.kind) (wires_in K.kind lock.inputs next_work.old) }
     ensures wrong { result ≡ wrong_product K.kind (first_of pair.entry) (second_of pair.entry) lock.entry.inputs (circuit_of K.kind lock.entry).gates (first_view K.kind pair.entry lock.entry.inputs work.old 0) (second_view K.kind pair.entry lock.entry.inputs next_work.old 0) }
     ensures first { wires_in K.kind (lock.entry.inputs + lock.entry.gates) work.new ≡ rerun (ops_of K.kind) (first_of pair.entry) (circuit_of K.kind lock.entry).gates (first_view K.kind pair.entry lock.entry.inputs work.old 0) }
     ensures second { wires_in K.kind (lock.entry.inputs + lock.entry.gates) next_work.new ≡ rerun (ops_of K.kind) (second_of pair.entry) (circuit_of K.kind lock.entry).gates (second_view K.kind pair.entry lock.entry.inputs next_work.old 0) }
-    ensures lawful { All (Lawful K.kind) (wires_in K.kind (lock.entry.inputs + lock.entry.gates) work.new) }
-    ensures nextlawful { All (Lawful K.kind) (wires_in K.kind (lock.entry.inputs + lock.entry.gates) next_work.new) }
+    ensures lawful { AllByRecursion (Lawful K.kind) (wires_in K.kind (lock.entry.inputs + lock.entry.gates) work.new) }
+    ensures nextlawful { AllByRecursion (Lawful K.kind) (wires_in K.kind (lock.entry.inputs + lock.entry.gates) next_work.new) }
 {
     let mut reader = lock.reader();
     let mut q = 0;

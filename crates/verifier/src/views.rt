@@ -1,6 +1,6 @@
 // The rerun of two branches from their views.
 ghost use Rattle.std.specs.Prelude.{◌≡◌, ◌+◌, ◌≤◌, length};
-ghost use Rattle.std.specs.List.{AllByRecursion as All};
+ghost use Rattle.std.specs.List.{AllByRecursion};
 ghost use Rattle.kinds.specs.Kind.{Lawful};
 ghost use Rattle.locks.specs.Lengths.{view_length, work_length};
 ghost use Rattle.theory.specs.Algebra.{ops_of};
@@ -38,8 +38,8 @@ pub(crate) fn rerun_views<'a, K: ElementKind>(
     ensures wrong { result ≡ wrong_product K.kind (the_branch branch) (next (the_branch branch)) lock.entry.inputs (circuit_of K.kind lock.entry).gates (view_of K.kind (circuit_of K.kind lock.entry) picked.now).1 (view_of K.kind (circuit_of K.kind lock.entry) following.now).1 }
     ensures first { wires_in K.kind (lock.entry.inputs + lock.entry.gates) work.new ≡ rerun (ops_of K.kind) (the_branch branch) (circuit_of K.kind lock.entry).gates (view_of K.kind (circuit_of K.kind lock.entry) picked.now).1 }
     ensures second { wires_in K.kind (lock.entry.inputs + lock.entry.gates) next_work.new ≡ rerun (ops_of K.kind) (next (the_branch branch)) (circuit_of K.kind lock.entry).gates (view_of K.kind (circuit_of K.kind lock.entry) following.now).1 }
-    ensures lawful { All (Lawful K.kind) (wires_in K.kind (lock.entry.inputs + lock.entry.gates) work.new) }
-    ensures nextlawful { All (Lawful K.kind) (wires_in K.kind (lock.entry.inputs + lock.entry.gates) next_work.new) }
+    ensures lawful { AllByRecursion (Lawful K.kind) (wires_in K.kind (lock.entry.inputs + lock.entry.gates) work.new) }
+    ensures nextlawful { AllByRecursion (Lawful K.kind) (wires_in K.kind (lock.entry.inputs + lock.entry.gates) next_work.new) }
 {
     let view = view_parts::<K>(lock, picked);
     let next_view = view_parts::<K>(lock, following);

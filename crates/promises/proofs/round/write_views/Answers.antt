@@ -1,5 +1,5 @@
 use Rattle.std.proofs.Common.{◌≡◌, ℕ, ◌+◌, ◌-◌, ◌*◌, ◌≤◌, List, ◌++◌, length, sym, refl, ap, ◌∙◌, subst, mul-le-mul_right, arith, length-drop}
-use Rattle.std.specs.List.{between, AllByRecursion as All}
+use Rattle.std.specs.List.{between, AllByRecursion}
 use Rattle.kinds.specs.Kind.{Lawful}
 use Rattle.kinds.specs.Groups.{group_length}
 use Rattle.locks.proofs.Steps.{to_end}
@@ -41,7 +41,7 @@ start_wires-requires g c =
       room = (inputs_room k c.args.lock.gates K.width (length c.args.work1.now) c.requires.within1, (inputs_room k c.args.lock.gates K.width (length c.args.work2.now) c.requires.within2, inputs_room k c.args.lock.gates K.width (length c.args.work3.now) c.requires.within3));
       lawful1 = a.share1_lawful;
       lawful2 = a.share2_lawful;
-      lawful3 = subst (All (Lawful K)) (sym there) (third_lawful K g.met.K.ElementKind.laws k c.args.key.now t.share1.now t.share2.now a.key_lawful a.share1_lawful a.share2_lawful);
+      lawful3 = subst (AllByRecursion (Lawful K)) (sym there) (third_lawful K g.met.K.ElementKind.laws k c.args.key.now t.share1.now t.share2.now a.key_lawful a.share1_lawful a.share2_lawful);
     }
 
 pub run_three-requires : goal.run_three-requires
@@ -59,9 +59,9 @@ run_three-requires g c =
       within1 = subst (λ (n : ℕ). (c.args.lock.inputs + c.args.lock.gates) * g.K.ElementKind.kind.width ≤ n) (sym c.start_wires.auto.work1) c.requires.within1;
       within2 = subst (λ (n : ℕ). (c.args.lock.inputs + c.args.lock.gates) * g.K.ElementKind.kind.width ≤ n) (sym c.start_wires.auto.work2) c.requires.within2;
       within3 = subst (λ (n : ℕ). (c.args.lock.inputs + c.args.lock.gates) * g.K.ElementKind.kind.width ≤ n) (sym c.start_wires.auto.work3) c.requires.within3;
-      lawful1 = subst (All (Lawful K)) (sym c.start_wires.ensures.first) a.share1_lawful;
-      lawful2 = subst (All (Lawful K)) (sym c.start_wires.ensures.second) a.share2_lawful;
-      lawful3 = subst (All (Lawful K)) (sym (c.start_wires.ensures.third ∙ there)) (third_lawful K g.met.K.ElementKind.laws k c.args.key.now t.share1.now t.share2.now a.key_lawful a.share1_lawful a.share2_lawful);
+      lawful1 = subst (AllByRecursion (Lawful K)) (sym c.start_wires.ensures.first) a.share1_lawful;
+      lawful2 = subst (AllByRecursion (Lawful K)) (sym c.start_wires.ensures.second) a.share2_lawful;
+      lawful3 = subst (AllByRecursion (Lawful K)) (sym (c.start_wires.ensures.third ∙ there)) (third_lawful K g.met.K.ElementKind.laws k c.args.key.now t.share1.now t.share2.now a.key_lawful a.share1_lawful a.share2_lawful);
       masked = subst (λ (n : ℕ). Masked K n masks) (sym a.counted) (record {
         long1 = omega (arith, a.tape_sized.mask1);
         long2 = omega (arith, a.tape_sized.mask2);

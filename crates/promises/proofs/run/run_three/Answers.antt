@@ -1,5 +1,5 @@
 use Rattle.std.proofs.Common.{◌≡◌, ℕ, ◌+◌, ◌-◌, ◌≤◌, List, length, sym, ap, ◌∙◌, subst, arith}
-use Rattle.std.specs.List.{AllByRecursion as All}
+use Rattle.std.specs.List.{AllByRecursion}
 use Rattle.kinds.specs.Kind.{Kind, Lawful}
 use Rattle.locks.specs.Circuit.{mus}
 use Rattle.locks.specs.Locks.{Summary}
@@ -16,7 +16,7 @@ use Rattle.promises.specs.declared.shape.Masks.{Masks}
 use Rattle.promises.proofs.Trios.{Trio, Turn, trio_start, next_there, next_for, next_some, trio_next, trio_end, trio_wires, trio_filled, room, few}
 use Rattle.promises.proofs.run.run_three.Goals as goal
 
-masks_ok : (K : Kind) (m : ℕ) (r : Masks) → Masked K m r → (i : Branch) → All (Lawful K) (masks_on K m r i)
+masks_ok : (K : Kind) (m : ℕ) (r : Masks) → Masked K m r → (i : Branch) → AllByRecursion (Lawful K) (masks_on K m r i)
 masks_ok K m r h one = h.lawful1
 masks_ok K m r h two = h.lawful2
 masks_ok K m r h three = h.lawful3
