@@ -23,9 +23,9 @@ impl ElementKind for Bit {
 
     ghost laws = { bit_laws };
 
-    ghost lawful = { first_of (Prim.search rules, Prim.grind (arith, Self.row.coded.inj)) };
+    ghost lawful = { Prim.search rules };
 
-    ghost same = { first_of (Prim.search rules, Prim.grind (arith, Self.row.coded.inj)) };
+    ghost same = { Prim.grind (arith, Self.row.coded.inj) };
 
     fn kind_number() -> u8 {
         Self::NUMBER

@@ -26,9 +26,9 @@ impl ElementKind for Residue {
 
     ghost laws = { modular_laws 3 2147483647 (lit≤ tt) (lit≤ tt) };
 
-    ghost lawful = { first_of (Prim.search rules, Prim.grind (arith, Self.row.coded.inj)) };
+    ghost lawful = { Prim.search rules };
 
-    ghost same = { first_of (Prim.search rules, Prim.grind (arith, Self.row.coded.inj)) };
+    ghost same = { Prim.grind (arith, Self.row.coded.inj) };
 
     fn kind_number() -> u8 {
         Self::NUMBER

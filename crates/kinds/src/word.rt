@@ -24,9 +24,9 @@ impl ElementKind for Word {
 
     ghost laws = { modular_laws 2 4294967296 (lit≤ tt) (lit≤ tt) };
 
-    ghost lawful = { first_of (Prim.search rules, Prim.grind (arith, Self.row.coded.inj)) };
+    ghost lawful = { Prim.search rules };
 
-    ghost same = { first_of (Prim.search rules, Prim.grind (arith, Self.row.coded.inj)) };
+    ghost same = { Prim.grind (arith, Self.row.coded.inj) };
 
     fn kind_number() -> u8 {
         Self::NUMBER
