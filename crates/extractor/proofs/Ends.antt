@@ -5,13 +5,13 @@ use Rattle.faults.specs.declared.Fault.{Fault}
 use Rattle.faults.specs.declared.Reason.{Reason}
 use Rattle.faults.specs.Numbers.{fault}
 use Rattle.std.proofs.lemmas.Bool.{leb-true, eqb-true}
-use Rattle.faults.specs.Outcomes.{check, and_then, map_ok}
+use Rattle.faults.specs.Outcomes.{check, map_ok}
 use Rattle.faults.proofs.Passed.{check_ok}
 use Rattle.kinds.specs.Kind.{Kind, Lawful}
 use Rattle.locks.specs.Circuit.{Circuit}
 use Rattle.locks.specs.declared.lock.Lock.{Lock}
 use Rattle.locks.specs.Lengths.{key_length, view_length, first_length, work_length}
-use Rattle.locks.specs.Locks.{Summary, summary, summary_of}
+use Rattle.locks.specs.Locks.{Summary, summary_of}
 use Rattle.locks.specs.Reading.{marked, lock_of}
 use Rattle.seals.specs.Sealing.{Sealing}
 use Rattle.theory.specs.declared.Branch.{Branch}

@@ -1,9 +1,9 @@
 -- The key grows element by element.
-use Rattle.std.proofs.Common.{◌≡◌, ℕ, zero, suc, ◌+◌, ◌<◌, ◌≤◌, List, [], ◌∷◌, ◌++◌, length, get_or, take, set, sym, refl, ap, ◌∙◌, add-one, arith, take_all, take-suc, take-suc-set}
+use Rattle.std.proofs.Common.{◌≡◌, ℕ, zero, suc, ◌+◌, ◌<◌, List, [], ◌∷◌, ◌++◌, length, take, set, sym, refl, ap, ◌∙◌, add-one, arith, take_all, take-suc, take-suc-set}
 use Rattle.kinds.specs.Kind.{Kind}
 use Rattle.kinds.specs.Groups.{group_length}
 use Rattle.theory.specs.Algebra.{Ops, ops_of}
-use Rattle.theory.specs.Runs.{read, sum, sum_of}
+use Rattle.theory.specs.Runs.{read, sum}
 use Rattle.theory.specs.Groups.{group, group_bytes}
 use Rattle.theory.proofs.Groups.{counted, written_read}
 use Rattle.extractor.specs.Sums.{sums_in}

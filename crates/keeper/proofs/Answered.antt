@@ -1,14 +1,13 @@
 -- An answer: what its tests tell, its bytes, and what it leaves.
-use Rattle.std.proofs.Common.{◌≡◌, ℕ, zero, suc, ◌+◌, ◌-◌, ◌*◌, ◌%◌, ◌≤◌, eqb, List, [], ◌∷◌, ◌++◌, length, take, drop, replicate, Ok, Err, Result, sym, refl, ap, ◌∙◌, arith, eqb-true}
+use Rattle.std.proofs.Common.{◌≡◌, ℕ, zero, suc, ◌+◌, ◌-◌, ◌*◌, ◌%◌, ◌≤◌, eqb, List, ◌∷◌, ◌++◌, take, drop, replicate, Ok, Result, sym, refl, ap, ◌∙◌, arith, eqb-true}
 use Rattle.faults.specs.declared.Fault.{Fault}
 use Rattle.faults.specs.declared.Reason.{Reason}
 use Rattle.faults.specs.Numbers.{fault}
-use Rattle.faults.specs.Outcomes.{map_ok, check}
+use Rattle.faults.specs.Outcomes.{check}
 use Rattle.faults.proofs.Passed.{err_ok, ok_same, check_ok, then_ok, map_ok_was}
 use Rattle.theory.specs.declared.RoundState.{RoundState}
 use Rattle.theory.specs.Runs.{next}
 use Rattle.theory.specs.declared.Branch.{Branch}
-use Rattle.theory.specs.declared.Branch.TheVariants.{One as one, Two as two, Three as three}
 use Rattle.theory.specs.Messages.{answer_bytes}
 use Rattle.theory.specs.Store.{put, round_at, round_length}
 use Rattle.theory.specs.Tests.{left}

@@ -1,13 +1,12 @@
 -- A promise that passed its tests, and one whose lock was read.
-use Rattle.std.proofs.Common.{◌≡◌, ℕ, suc, ◌+◌, ◌-◌, ◌*◌, ◌<◌, ◌≤◌, Bool, true, false, eqb, ltb, leb, List, [], ◌∷◌, ◌++◌, length, take, set, Ok, Err, Result, sym, refl, ap, ◌∙◌, subst, arith}
+use Rattle.std.proofs.Common.{◌≡◌, ℕ, suc, ◌-◌, ◌≤◌, Bool, true, false, eqb, ltb, leb, List, [], ◌∷◌, ◌++◌, length, take, set, Ok, Err, Result, sym, refl, ap, ◌∙◌, arith}
 use Rattle.faults.specs.declared.Fault.{Fault}
 use Rattle.faults.specs.declared.Reason.{Reason}
 use Rattle.faults.specs.Numbers.{fault}
-use Rattle.faults.specs.Outcomes.{check, and_then, map_ok}
+use Rattle.faults.specs.Outcomes.{check, and_then}
 use Rattle.kinds.specs.Kind.{Kind}
 use Rattle.locks.specs.Circuit.{Circuit, mus}
 use Rattle.locks.specs.Lengths.{key_length, view_length, tape_length, first_length, work_length}
-use Rattle.locks.specs.Locks.{Summary}
 use Rattle.locks.specs.Reading.{lock_of}
 use Rattle.locks.specs.declared.lock.Lock.{Lock}
 use Rattle.seals.specs.Sealing.{Sealing}
@@ -15,14 +14,12 @@ use Rattle.theory.specs.declared.RoundState.{RoundState}
 use Rattle.theory.specs.Extraction.{read_circuit}
 use Rattle.theory.specs.Keeper.{Keeper as Values, Given, given, key_right, tape_right, promise_sizes, promise_result, first_after, after_promise, kept}
 use Rattle.theory.specs.Messages.{key_of, tape_of}
-use Rattle.theory.specs.declared.Branch.TheVariants.{One as one, Two as two, Three as three}
 use Rattle.theory.specs.Store.{put, round_at}
 use Rattle.theory.specs.Tests.{Verdict, both, left}
 use Rattle.branches.specs.Walks.{Stands, circuit_of}
 use Rattle.keeper.specs.Model.{values_of, Placed}
-use Rattle.keeper.specs.Promise.{size_right, sizes_right, next_round, tested, secrets_right, promised_for, promised_to, lengths_of, views_for, round_for, first_for, Ready}
+use Rattle.keeper.specs.Promise.{size_right, tested, secrets_right, promised_for, promised_to, lengths_of, views_for, round_for, first_for, Ready}
 use Rattle.keeper.specs.declared.Keeper.{Keeper}
-use Rattle.keeper.specs.declared.tests.Lengths.{Lengths}
 use Rattle.keeper.proofs.Rooms.{placed_in}
 use Rattle.keeper.proofs.Tables.{one_more}
 use Rattle.keeper.proofs.Tested.{Passing, passing, table_long}

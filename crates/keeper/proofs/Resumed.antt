@@ -1,5 +1,5 @@
 -- The records that a resumed keeper goes on with.
-use Rattle.std.proofs.Common.{◌≡◌, ℕ, zero, suc, ◌-◌, ◌≤◌, min, List, [], ◌∷◌, length, take, sym, refl, ap, ◌∙◌, arith, length-take, take_all}
+use Rattle.std.proofs.Common.{◌≡◌, ℕ, zero, suc, ◌-◌, min, List, [], ◌∷◌, length, take, sym, refl, ap, ◌∙◌, arith, length-take, take_all}
 use Rattle.theory.specs.declared.RoundState.{RoundState}
 use Rattle.theory.specs.Keeper.{Keeper}
 

@@ -1,7 +1,7 @@
 -- How many rounds a store holds, and where they lie.
-use Rattle.std.proofs.Common.{◌≡◌, ℕ, suc, ◌+◌, ◌-◌, ◌*◌, ◌/◌, ◌<◌, ◌≤◌, min, Bool, true, false, cond, ◌&&◌, leb, ◌⊎◌, length, Ok, sym, ap, ◌∙◌, subst, inl, inr, mul-le-mul_right, mul_comm, mul-le-mul_left, zero-mul, mul-suc, div-mul-le_self, arith}
+use Rattle.std.proofs.Common.{◌≡◌, ℕ, suc, ◌-◌, ◌*◌, ◌/◌, ◌<◌, ◌≤◌, min, Bool, true, false, cond, ◌&&◌, leb, ◌⊎◌, length, Ok, inl, inr, mul-le-mul_right, mul_comm, mul-le-mul_left, zero-mul, mul-suc, div-mul-le_self, arith}
 use Rattle.std.proofs.lemmas.Bool.Decides.{nat_tests}
-use Rattle.theory.specs.Store.{rounds_in, round_at, round_length}
+use Rattle.theory.specs.Store.{rounds_in, round_at}
 use Rattle.theory.proofs.Places.{place_laws}
 use Rattle.theory.specs.Keeper.{round_open}
 use Rattle.keeper.specs.Model.{Placed, values_of}

@@ -1,5 +1,5 @@
 -- The table of records as the front of an array.
-use Rattle.std.proofs.Common.{◌≡◌, ℕ, zero, suc, ◌+◌, ◌-◌, ◌<◌, ◌≤◌, List, [], ◌∷◌, ◌++◌, length, get_or, take, set, Some, None, Ok, Err, Option, sym, refl, ap, ◌∙◌, arith, length-take}
+use Rattle.std.proofs.Common.{◌≡◌, ℕ, zero, suc, ◌-◌, ◌<◌, ◌≤◌, List, [], ◌∷◌, ◌++◌, length, get_or, take, set, Some, None, Ok, Option, refl, ap, ◌∙◌, arith, length-take}
 use Rattle.faults.proofs.Passed.{err_ok}
 use Rattle.theory.specs.declared.RoundState.{RoundState}
 use Rattle.theory.specs.Keeper.{state_of, with_state, open_by}

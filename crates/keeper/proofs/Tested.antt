@@ -1,5 +1,5 @@
 -- The tests of a promise: what they tell where they pass.
-use Rattle.std.proofs.Common.{◌≡◌, ℕ, suc, ◌+◌, ◌*◌, ◌<◌, ◌≤◌, Bool, true, false, eqb, ltb, leb, List, [], ◌∷◌, ◌++◌, length, take, Ok, Err, Result, sym, refl, ap, ◌∙◌, subst, arith, length-take-le, ltb-true, eq-eqb, eqb-true, leb-true}
+use Rattle.std.proofs.Common.{◌≡◌, ℕ, suc, ◌<◌, ◌≤◌, Bool, true, eqb, ltb, List, length, take, Ok, Err, Result, sym, refl, ◌∙◌, arith, length-take-le, ltb-true, eq-eqb, eqb-true, leb-true}
 use Rattle.std.specs.List.{AllByRecursion}
 use Rattle.faults.specs.declared.Fault.{Fault}
 use Rattle.faults.specs.declared.Reason.{Reason}
@@ -7,8 +7,6 @@ use Rattle.faults.specs.Numbers.{fault}
 use Rattle.faults.specs.Outcomes.{check, and_then}
 use Rattle.faults.proofs.Passed.{err_ok, ok_same, check_ok, then_ok}
 use Rattle.kinds.specs.Kind.{Kind, Lawful}
-use Rattle.kinds.specs.Groups.{group_length}
-use Rattle.locks.specs.Circuit.{Circuit, mus}
 use Rattle.locks.specs.Lengths.{key_length, view_length, tape_length, first_length, work_length}
 use Rattle.seals.specs.Sealing.{Sealing}
 use Rattle.theory.specs.Groups.{group}
@@ -22,7 +20,7 @@ use Rattle.theory.specs.Keeper.{key_right, tape_right, Keeper as Values}
 use Rattle.keeper.specs.declared.Keeper.{Keeper}
 use Rattle.theory.specs.Messages.{key_of, tape_of}
 use Rattle.promises.proofs.Told.{lock_counts, cut_right}
-use Rattle.keeper.specs.Promise.{size_right, buffers_right, sizes_right, Ready, lengths_of, next_round, tested}
+use Rattle.keeper.specs.Promise.{size_right, sizes_right, Ready, lengths_of, next_round, tested}
 use Rattle.keeper.specs.declared.tests.Lengths.{Lengths}
 
 pub both_ok : (r s : Verdict) → both r s ≡ Ok tt → (r ≡ Ok tt) × (s ≡ Ok tt)

@@ -1,5 +1,5 @@
 -- The tests of a promise, by a lock's counts: k inputs, g gates, m outputs, M products.
-use Rattle.std.specs.Prelude.{◌≡◌, ℕ, suc, Bool, List, ◌++◌, length, Ok, Err, Result, ◌==◌, nat_le, nat_lt}
+use Rattle.std.specs.Prelude.{◌≡◌, ℕ, suc, Bool, List, ◌++◌, length, Ok, Result, ◌==◌, nat_le, nat_lt}
 use Rattle.locks.specs.declared.lock.Lock.{Lock}
 use Rattle.branches.specs.Walks.{Stands, circuit_of}
 use Rattle.faults.specs.declared.Fault.{Fault}

@@ -1,5 +1,5 @@
 -- Groups filled element by element, from the front.
-use Rattle.std.proofs.Common.{◌≡◌, ℕ, zero, suc, ◌+◌, ◌-◌, ◌*◌, ◌<◌, ◌≤◌, List, [], ◌∷◌, ◌++◌, length, get_or, take, drop, set, sym, refl, ap, ◌∙◌, append_assoc, append-nil, add-one, arith, take_all}
+use Rattle.std.proofs.Common.{◌≡◌, ℕ, ◌+◌, ◌<◌, ◌≤◌, List, [], ◌∷◌, ◌++◌, length, take, drop, set, sym, ap, ◌∙◌, append_assoc, append-nil, add-one, arith, take_all}
 use Rattle.std.proofs.lemmas.List.{drop_more, drop_all}
 use Rattle.kinds.specs.Kind.{Kind}
 use Rattle.kinds.specs.Groups.{group_length}

@@ -1,5 +1,5 @@
 -- Segments of a list of bytes: what a write leaves as it was, and a list from its segments.
-use Rattle.std.proofs.Common.{◌≡◌, ℕ, zero, suc, ◌+◌, ◌-◌, ◌*◌, ◌<◌, ◌≤◌, ◌⊎◌, List, [], ◌∷◌, ◌++◌, length, take, drop, set, sym, refl, ap, ◌∙◌, ap₂, inl, inr, append_assoc, arith, length-append, length-drop, length-take, take_all, take-take, drop-drop}
+use Rattle.std.proofs.Common.{◌≡◌, ℕ, zero, suc, ◌+◌, ◌-◌, ◌*◌, ◌<◌, ◌≤◌, List, [], ◌∷◌, ◌++◌, length, take, drop, set, sym, refl, ap, ◌∙◌, ap₂, arith, length-drop, take_all, take-take, drop-drop}
 use Rattle.std.proofs.lemmas.List.{drop-take, take-append-drop}
 use Rattle.kinds.specs.Kind.{Kind}
 use Rattle.kinds.specs.Groups.{group_length}
@@ -7,7 +7,7 @@ use Rattle.theory.specs.Groups.{group, group_bytes}
 use Rattle.theory.specs.Messages.{behind}
 use Rattle.theory.specs.declared.Branch.{Branch}
 use Rattle.theory.specs.declared.Branch.TheVariants.{One as one, Two as two, Three as three}
-use Rattle.theory.proofs.Groups.{cut, fronted, counted, bytes_group}
+use Rattle.theory.proofs.Groups.{cut, fronted, bytes_group}
 use Rattle.promises.specs.Parts.{front_in, products_in, Put}
 
 -- a segment that lies before a

@@ -1,5 +1,5 @@
 -- What is written of a round is what the definitions say of its lock, key and tape.
-use Rattle.std.proofs.Common.{◌≡◌, ℕ, ◌+◌, ◌-◌, ◌*◌, ◌≤◌, List, [], ◌∷◌, ◌++◌, length, take, drop, sym, refl, ap, ◌∙◌, subst, ap₂, arith, length-drop, length-take-le}
+use Rattle.std.proofs.Common.{◌≡◌, ℕ, ◌+◌, ◌≤◌, List, ◌++◌, length, take, drop, sym, ap, ◌∙◌, subst, arith, length-drop, length-take-le}
 use Rattle.faults.specs.declared.Reason.{Reason}
 use Rattle.kinds.specs.Kind.{Kind, Laws}
 use Rattle.kinds.specs.Groups.{group_length}
@@ -8,10 +8,10 @@ use Rattle.locks.specs.Lengths.{view_length, tape_length}
 use Rattle.locks.specs.Locks.{Summary}
 use Rattle.locks.specs.declared.lock.Lock.{Lock}
 use Rattle.theory.specs.Algebra.{ops_of}
-use Rattle.theory.specs.Branches.{Tape, masks_on, shares_of, view, out_shares}
+use Rattle.theory.specs.Branches.{masks_on, shares_of, view, out_shares}
 use Rattle.theory.specs.Groups.{group, group_bytes}
 use Rattle.theory.specs.Keeper.{tape_right}
-use Rattle.theory.specs.Messages.{view_bytes, key_of, tape_of, blind_in, masks_in}
+use Rattle.theory.specs.Messages.{view_bytes, key_of, tape_of, blind_in}
 use Rattle.theory.specs.Runs.{honest, rerun, less, at_outputs}
 use Rattle.theory.specs.declared.Branch.{Branch}
 use Rattle.theory.specs.declared.Branch.TheVariants.{One as one, Two as two, Three as three}
@@ -19,11 +19,10 @@ use Rattle.theory.specs.Tests.{both, lawful_at}
 use Rattle.theory.proofs.Groups.{written_read}
 use Rattle.branches.specs.Walks.{Stands, circuit_of}
 use Rattle.promises.specs.declared.tape.Tape.{Tape as Parts}
-use Rattle.promises.specs.Parts.{three_of}
 use Rattle.promises.specs.Tapes.{shares_from, masks_from, Cut, Sized, parts_right}
-use Rattle.promises.specs.Fronts.{third_of, fronts_of}
+use Rattle.promises.specs.Fronts.{third_of}
 use Rattle.promises.specs.Rounds.{shares_on, tape_masks, round_products, round_view, round_outs}
-use Rattle.promises.proofs.Thirds.{regroup, third_lawful, third_long}
+use Rattle.promises.proofs.Thirds.{regroup}
 
 pub lock_counts : (K : Kind) (lock : Lock) → Stands K lock → mus (circuit_of K lock).gates ≡ lock.products
 lock_counts K lock s = ap (λ (u : Summary). u.products) s.summed

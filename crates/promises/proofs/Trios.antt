@@ -1,5 +1,5 @@
 -- Three branches run together, a gate at a time.
-use Rattle.std.proofs.Common.{◌≡◌, ℕ, zero, suc, ◌+◌, ◌-◌, ◌*◌, ◌<◌, ◌≤◌, true, List, [], ◌∷◌, ◌++◌, length, get_or, take, drop, is_ok, Ok, sym, refl, ap, ◌∙◌, subst, append_assoc, append-nil, add-zero, mul-le-mul_right, mul-le-mul_left, add-one, arith, take_all}
+use Rattle.std.proofs.Common.{◌≡◌, ℕ, zero, suc, ◌+◌, ◌-◌, ◌*◌, ◌<◌, ◌≤◌, true, List, [], ◌∷◌, ◌++◌, length, take, drop, is_ok, Ok, sym, refl, ap, ◌∙◌, subst, append_assoc, append-nil, add-zero, mul-le-mul_right, mul-le-mul_left, add-one, arith, take_all}
 use Rattle.std.specs.List.{AllByRecursion}
 use Rattle.kinds.specs.Kind.{Kind, Laws, Lawful}
 use Rattle.locks.specs.Circuit.{Gate, ac, mc, ad, mu, mus}
@@ -7,11 +7,11 @@ use Rattle.locks.specs.Encoding.{GateFor}
 use Rattle.locks.specs.Model.{Standing, behind}
 use Rattle.locks.specs.Reading.{gate_in, gate_size}
 use Rattle.theory.specs.Algebra.{ops_of}
-use Rattle.theory.specs.Runs.{next, View, read, head, tail, rest, front, share, right, plus_constant, local, step, rerun, honest}
+use Rattle.theory.specs.Runs.{next, read, head, tail, rest, front, share, right, plus_constant, local, step, rerun, honest}
 use Rattle.theory.specs.declared.Branch.{Branch}
 use Rattle.theory.specs.declared.Branch.TheVariants.{One as one, Two as two, Three as three}
 use Rattle.theory.proofs.Groups.{counted}
-use Rattle.branches.specs.Views.{has, taken}
+use Rattle.branches.specs.Views.{has}
 use Rattle.branches.specs.Walks.{gates_at, GatesStand}
 use Rattle.branches.specs.Wires.{wires_in}
 use Rattle.branches.proofs.RowLemmas.{all_snoc, read_lawful}

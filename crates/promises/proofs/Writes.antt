@@ -1,6 +1,5 @@
 -- Writes one behind the other fill a buffer; a write to a part of a slice.
-use Rattle.std.proofs.Common.{◌≡◌, ℕ, zero, suc, ◌+◌, ◌-◌, ◌*◌, ◌<◌, ◌≤◌, List, [], ◌∷◌, ◌++◌, length, take, drop, replicate, sym, refl, ap, ◌∙◌, append_assoc, append-nil, mul-le-mul_left, arith, length-append, length-drop, length-take, length-take-le, take_all, drop-drop, take_at}
-use lib.ListN.{length-replicate}
+use Rattle.std.proofs.Common.{◌≡◌, ℕ, ◌+◌, ◌-◌, ◌*◌, ◌≤◌, List, [], ◌++◌, length, take, drop, sym, refl, ap, ◌∙◌, append_assoc, mul-le-mul_left, arith, length-append, length-drop, length-take, length-take-le, take_all, drop-drop, take_at}
 use borrow.Rule.Slice.PartMut.{put_mid}
 use Rattle.std.specs.List.{between}
 use Rattle.theory.specs.Store.{put}

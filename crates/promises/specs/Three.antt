@@ -7,7 +7,6 @@ use Rattle.locks.specs.Circuit.{Gate, ac, mc, ad, mu}
 use Rattle.theory.specs.Algebra.{ops_of}
 use Rattle.theory.specs.Runs.{next, View, read, right, local, honest}
 use Rattle.theory.specs.declared.Branch.{Branch}
-use Rattle.theory.specs.declared.Branch.TheVariants.{One as one, Two as two, Three as three}
 use Rattle.theory.specs.Groups.{group}
 use Rattle.branches.specs.Views.{taken}
 use Rattle.branches.specs.Wires.{wires_in}

@@ -1,4 +1,4 @@
-use Rattle.std.proofs.Common.{◌≡◌, length, Ok, Err, sym, ap, ◌∙◌}
+use Rattle.std.proofs.Common.{length, Ok, Err, sym, ap, ◌∙◌}
 use Rattle.std.proofs.lemmas.Result.{err_from_is_err_and}
 use Rattle.theory.specs.declared.Branch.TheVariants.{One as one, Two as two, Three as three}
 use Rattle.theory.specs.declared.Extracted.{Extracted}
@@ -6,7 +6,7 @@ use Rattle.theory.specs.Groups.{group_bytes}
 use Rattle.theory.specs.Extraction.{key_from}
 use Rattle.branches.specs.Walks.{circuit_of}
 use Rattle.extractor.specs.Answers.{answers_of, key_written}
-use Rattle.extractor.proofs.Ends.{at_ok, Ready, ready, key_stays, answers_refused, all_accepted, key_given, shares_lawful, each_right}
+use Rattle.extractor.proofs.Ends.{at_ok, ready, key_stays, answers_refused, all_accepted, key_given, shares_lawful, each_right}
 use Rattle.extractor.proofs.extract.outcome.Goals as goal
 
 pub accepted-requires : goal.accepted-requires

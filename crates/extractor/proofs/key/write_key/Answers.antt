@@ -1,4 +1,4 @@
-use Rattle.std.proofs.Common.{◌≡◌, ℕ, List, length, ap, ◌∙◌, arith}
+use Rattle.std.proofs.Common.{◌≡◌, length, ◌∙◌, arith}
 use Rattle.kinds.specs.Groups.{group_length}
 use Rattle.extractor.proofs.KeySums.{key_next, key_all}
 use Rattle.extractor.proofs.key.write_key.Goals as goal

@@ -1,13 +1,12 @@
-use Rattle.std.proofs.Common.{◌≡◌, ℕ, ◌≤◌, List, length, take, Ok, sym, refl, ap, ◌∙◌, arith}
+use Rattle.std.proofs.Common.{◌≡◌, length, take, Ok, sym, refl, ap, ◌∙◌}
 use Rattle.theory.specs.declared.RoundState.{RoundState}
 use Rattle.theory.specs.Runs.{next}
-use Rattle.theory.specs.declared.Branch.{Branch}
 use Rattle.theory.specs.Messages.{answer_bytes}
 use Rattle.theory.specs.Keeper.{answer_branch, answer_result, kept_view, ended}
 use Rattle.keeper.specs.Model.{values_of}
 use Rattle.keeper.proofs.Tables.{marked}
 use Rattle.keeper.proofs.Rooms.{placed_here}
-use Rattle.keeper.proofs.Answered.{Answering, answering, ended_is, left_as}
+use Rattle.keeper.proofs.Answered.{answering, ended_is, left_as}
 use Rattle.keeper.proofs.Keeper.answer.Goals as goal
 
 pub spend-requires : goal.spend-requires

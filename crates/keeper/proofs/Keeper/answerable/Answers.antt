@@ -1,4 +1,4 @@
-use Rattle.std.proofs.Common.{◌≡◌, ◌≤◌, sym, ◌∙◌, arith}
+use Rattle.std.proofs.Common.{◌≤◌, sym, ◌∙◌, arith}
 use Rattle.keeper.proofs.Tables.{open_range}
 use Rattle.keeper.proofs.Keeper.answerable.Goals as goal
 

@@ -1,9 +1,8 @@
-use Rattle.std.proofs.Common.{◌≡◌, ℕ, ◌≤◌, List, length, take, Ok, sym, refl, ap, ◌∙◌, arith}
+use Rattle.std.proofs.Common.{◌≡◌, take, Ok, sym, refl, ap, ◌∙◌}
 use Rattle.theory.specs.declared.RoundState.{RoundState}
 use Rattle.theory.specs.Keeper.{round_open, ended}
-use Rattle.keeper.specs.Model.{values_of, Placed}
-use Rattle.keeper.specs.declared.Keeper.{Keeper}
-use Rattle.keeper.proofs.Tables.{open_range, marked}
+use Rattle.keeper.specs.Model.{values_of}
+use Rattle.keeper.proofs.Tables.{marked}
 use Rattle.keeper.proofs.Rooms.{placed_here}
 use Rattle.keeper.proofs.Answered.{ended_is, left_as}
 use Rattle.keeper.proofs.Keeper.drop_round.Goals as goal

@@ -1,7 +1,6 @@
-use Rattle.std.proofs.Common.{◌≡◌, ℕ, ◌*◌, ◌≤◌, List, length, Ok, sym, refl, ap, ◌∙◌, subst, arith}
-use Rattle.keeper.specs.Model.{values_of}
-use Rattle.keeper.specs.Promise.{promised_to, Ready}
-use Rattle.keeper.proofs.Promised.{round_number, round_within, round_placed, round_ready, kept_is}
+use Rattle.std.proofs.Common.{ℕ, ◌*◌, ◌≤◌, length, sym, refl, ◌∙◌, subst}
+use Rattle.keeper.specs.Promise.{Ready}
+use Rattle.keeper.proofs.Promised.{round_within, round_placed, round_ready, kept_is}
 use Rattle.keeper.proofs.Keeper.promise_lock.Goals as goal
 
 pub store_round-requires : goal.store_round-requires

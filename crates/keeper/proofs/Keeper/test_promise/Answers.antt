@@ -1,4 +1,4 @@
-use Rattle.std.proofs.Common.{◌≡◌, Ok, sym, ap, ◌∙◌, arith}
+use Rattle.std.proofs.Common.{Ok, sym, ap, ◌∙◌, arith}
 use Rattle.faults.specs.Outcomes.{and_then}
 use Rattle.theory.specs.Tests.{Verdict}
 use Rattle.keeper.specs.Model.{values_of}

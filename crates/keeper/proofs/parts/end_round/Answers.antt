@@ -1,4 +1,4 @@
-use Rattle.std.proofs.Common.{◌≡◌, ℕ, ◌+◌, ◌*◌, ◌≤◌, List, length, replicate, ap, ◌∙◌, arith}
+use Rattle.std.proofs.Common.{◌≡◌, ℕ, ◌+◌, ◌*◌, ◌≤◌, length, replicate, ap, ◌∙◌, arith}
 use lib.ListN.{length-replicate}
 use Rattle.theory.specs.Store.{put}
 use Rattle.promises.proofs.Writes.{put_mid_lem, long}

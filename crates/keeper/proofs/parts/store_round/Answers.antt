@@ -1,14 +1,8 @@
-use Rattle.std.proofs.Common.{◌≡◌, ℕ, ◌+◌, ◌*◌, ◌≤◌, List, ◌++◌, length, Ok, sym, refl, ap, ◌∙◌, ap₂, arith}
-use Rattle.kinds.specs.Kind.{Kind}
-use Rattle.kinds.specs.Groups.{group_length}
-use Rattle.theory.specs.Groups.{group}
+use Rattle.std.proofs.Common.{ℕ, ◌+◌, ◌*◌, ◌≤◌, ◌++◌, length, sym, refl, ap, ◌∙◌, ap₂, arith}
 use Rattle.theory.specs.Messages.{first_bytes}
-use Rattle.theory.specs.declared.Branch.{Branch}
 use Rattle.theory.specs.declared.Branch.TheVariants.{One as one, Two as two, Three as three}
-use Rattle.theory.specs.Store.{put, round_at, round_length}
+use Rattle.theory.specs.Store.{put}
 use Rattle.branches.specs.Walks.{circuit_of}
-use Rattle.promises.specs.Rounds.{Accepted}
-use Rattle.promises.specs.Three.{Shaped}
 use Rattle.promises.proofs.Told.{lock_counts, lock_short, cut_sized, view_is, outs_are}
 use Rattle.promises.proofs.Writes.{put_mid_lem, long}
 use Rattle.keeper.specs.Promise.{round_for}

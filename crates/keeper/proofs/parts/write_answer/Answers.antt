@@ -1,4 +1,4 @@
-use Rattle.std.proofs.Common.{◌≡◌, ℕ, ◌+◌, ◌-◌, ◌*◌, ◌%◌, ◌≤◌, List, [], ◌∷◌, ◌++◌, length, take, drop, refl, ap, ◌∙◌, arith}
+use Rattle.std.proofs.Common.{◌+◌, ◌-◌, ◌*◌, ◌%◌, [], ◌∷◌, ◌++◌, length, refl, ◌∙◌, arith}
 use Rattle.promises.proofs.Writes.{three_writes, view_room, view_long}
 use Rattle.keeper.proofs.Answered.{answer_is}
 use Rattle.keeper.proofs.parts.write_answer.Goals as goal

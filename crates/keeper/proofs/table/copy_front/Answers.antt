@@ -1,6 +1,5 @@
-use Rattle.std.proofs.Common.{◌≡◌, ◌-◌, List, ◌++◌, length, take, ap, ◌∙◌}
+use Rattle.std.proofs.Common.{◌≡◌, List, ◌++◌, length, take, ap, ◌∙◌}
 use lib.Seq.{take-append_seam}
-use borrow.Rule.Slice.PartMut.{post_of}
 use Rattle.theory.specs.declared.RoundState.{RoundState}
 use Rattle.keeper.proofs.table.copy_front.Goals as goal
 

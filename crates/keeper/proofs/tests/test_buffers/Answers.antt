@@ -1,4 +1,4 @@
-use Rattle.std.proofs.Common.{◌≡◌, ℕ, eqb, leb, Ok, sym, ap, ◌∙◌}
+use Rattle.std.proofs.Common.{ℕ, eqb, leb, sym, ap, ◌∙◌}
 use Rattle.locks.specs.Lengths.{first_length}
 use Rattle.keeper.specs.Promise.{size_right}
 use Rattle.keeper.proofs.Tested.{three_passed}

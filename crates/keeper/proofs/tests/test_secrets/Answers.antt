@@ -1,6 +1,6 @@
-use Rattle.std.proofs.Common.{◌≡◌, sym, ap, ◌∙◌}
-use Rattle.theory.specs.Messages.{key_of, tape_of}
-use Rattle.theory.specs.Keeper.{key_right, tape_right}
+use Rattle.std.proofs.Common.{sym, ap, ◌∙◌}
+use Rattle.theory.specs.Messages.{tape_of}
+use Rattle.theory.specs.Keeper.{tape_right}
 use Rattle.theory.specs.Tests.{Verdict, both}
 use Rattle.branches.specs.Walks.{circuit_of}
 use Rattle.promises.proofs.Told.{lock_counts, lock_short, cut_sized, cut_right}

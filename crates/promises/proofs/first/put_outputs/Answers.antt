@@ -1,4 +1,4 @@
-use Rattle.std.proofs.Common.{◌≡◌, length, sym, refl, ap, ◌∙◌, arith}
+use Rattle.std.proofs.Common.{length, sym, ap, ◌∙◌}
 use Rattle.promises.proofs.Writes.{put_mid_lem, long}
 use Rattle.promises.proofs.first.put_outputs.Goals as goal
 

@@ -1,4 +1,4 @@
-use Rattle.std.proofs.Common.{◌≡◌, ℕ, ◌+◌, ◌≤◌, length, sym, refl, ap, ◌∙◌, arith}
+use Rattle.std.proofs.Common.{◌+◌, ◌≤◌, length, sym, ◌∙◌, arith}
 use Rattle.std.specs.List.{between}
 use Rattle.seals.proofs.Sealed.{left_taken}
 use Rattle.promises.proofs.Writes.{put_mid_lem, long}

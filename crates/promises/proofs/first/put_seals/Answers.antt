@@ -1,4 +1,4 @@
-use Rattle.std.proofs.Common.{◌≡◌, ℕ, ◌+◌, ◌*◌, ◌≤◌, List, ◌++◌, length, take, drop, sym, refl, ap, ◌∙◌, arith}
+use Rattle.std.proofs.Common.{◌≡◌, ℕ, ◌+◌, ◌*◌, List, ◌++◌, length, take, drop, sym, ap, ◌∙◌, arith}
 use Rattle.promises.specs.First.{view_part}
 use Rattle.theory.specs.declared.Branch.TheVariants.{One as one, Two as two, Three as three}
 use Rattle.promises.proofs.Writes.{tail_writes, view_long}

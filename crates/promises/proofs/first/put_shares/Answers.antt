@@ -1,4 +1,4 @@
-use Rattle.std.proofs.Common.{◌≡◌, ℕ, ◌+◌, ◌*◌, List, [], ◌∷◌, length, sym, refl, ap, ◌∙◌, arith}
+use Rattle.std.proofs.Common.{ℕ, ◌+◌, ◌*◌, [], ◌∷◌, refl, ap, arith}
 use Rattle.promises.proofs.Writes.{front_writes}
 use Rattle.promises.proofs.first.put_shares.Goals as goal
 

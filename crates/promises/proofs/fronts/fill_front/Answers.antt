@@ -1,4 +1,4 @@
-use Rattle.std.proofs.Common.{◌≡◌, ◌+◌, length, refl, ◌∙◌, arith}
+use Rattle.std.proofs.Common.{◌+◌, length, refl, ◌∙◌, arith}
 use Rattle.promises.proofs.Writes.{three_writes}
 use Rattle.promises.proofs.fronts.fill_front.Goals as goal
 

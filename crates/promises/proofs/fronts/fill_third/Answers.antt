@@ -1,4 +1,4 @@
-use Rattle.std.proofs.Common.{◌≡◌, ℕ, ◌+◌, ◌≤◌, length, sym, refl, ap, ◌∙◌, arith}
+use Rattle.std.proofs.Common.{◌≡◌, ◌+◌, length, sym, refl, ap, ◌∙◌, arith}
 use Rattle.theory.specs.Groups.{group_bytes}
 use Rattle.promises.specs.Fronts.{third_of}
 use Rattle.promises.proofs.Writes.{three_writes, put_mid_lem, long, length_put}

@@ -1,4 +1,4 @@
-use Rattle.std.proofs.Common.{◌≡◌, ℕ, ◌+◌, length, sym, ap, ◌∙◌, subst, arith}
+use Rattle.std.proofs.Common.{◌≡◌, ◌+◌, sym, ap, ◌∙◌, subst, arith}
 use Rattle.locks.specs.Model.{Standing, standing, output_of}
 use Rattle.branches.specs.Walks.{outputs_at, outputs_place, OutputsStand}
 use Rattle.branches.specs.Wires.{wires_in}

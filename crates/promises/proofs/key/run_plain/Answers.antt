@@ -1,11 +1,11 @@
-use Rattle.std.proofs.Common.{◌≡◌, ℕ, ◌+◌, List, length, sym, ap, ◌∙◌, subst, arith}
+use Rattle.std.proofs.Common.{◌≡◌, length, sym, ap, ◌∙◌, subst, arith}
 use Rattle.locks.specs.Model.{Standing, standing, gate_of}
 use Rattle.theory.specs.Algebra.{ops_of}
 use Rattle.theory.specs.Runs.{plain}
 use Rattle.branches.specs.Walks.{gates_at, gates_place, GatesStand}
 use Rattle.branches.specs.Wires.{wires_in}
 use Rattle.promises.proofs.Trios.{room}
-use Rattle.promises.proofs.Walks.{Plain, plain_start, plain_there, plain_for, plain_next, plain_end}
+use Rattle.promises.proofs.Walks.{plain_start, plain_there, plain_for, plain_next, plain_end}
 use Rattle.promises.proofs.key.run_plain.Goals as goal
 
 pub loop-j-init : goal.loop-j-init

@@ -1,1 +1,0 @@
-use Rattle.promises.proofs.key.test_targets.Goals as goal

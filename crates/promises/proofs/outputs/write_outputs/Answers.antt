@@ -1,4 +1,4 @@
-use Rattle.std.proofs.Common.{◌≡◌, ℕ, ◌+◌, ◌-◌, List, ◌∷◌, length, sym, refl, ap, ◌∙◌, subst, arith}
+use Rattle.std.proofs.Common.{◌≡◌, ℕ, ◌+◌, ◌-◌, List, ◌∷◌, sym, ap, ◌∙◌, subst, arith}
 use Rattle.locks.specs.Circuit.{Output}
 use Rattle.locks.specs.Model.{Standing, standing, output_of}
 use Rattle.theory.specs.Algebra.{ops_of}

@@ -1,4 +1,4 @@
-use Rattle.std.proofs.Common.{◌≡◌, ℕ, ◌+◌, ◌-◌, ◌*◌, ◌≤◌, List, ◌++◌, length, sym, refl, ap, ◌∙◌, subst, mul-le-mul_right, arith, length-drop}
+use Rattle.std.proofs.Common.{◌≡◌, ℕ, ◌+◌, ◌-◌, ◌*◌, ◌≤◌, length, sym, ap, ◌∙◌, subst, mul-le-mul_right, arith, length-drop}
 use Rattle.std.specs.List.{between, AllByRecursion}
 use Rattle.kinds.specs.Kind.{Lawful}
 use Rattle.kinds.specs.Groups.{group_length}
@@ -6,8 +6,7 @@ use Rattle.locks.proofs.Steps.{to_end}
 use Rattle.theory.specs.Algebra.{ops_of}
 use Rattle.theory.specs.Groups.{group}
 use Rattle.theory.specs.Runs.{honest, rerun}
-use Rattle.theory.specs.declared.Branch.{Branch}
-use Rattle.theory.specs.declared.Branch.TheVariants.{One as one, Two as two, Three as three}
+use Rattle.theory.specs.declared.Branch.TheVariants.{Three as three}
 use Rattle.branches.specs.Walks.{circuit_of}
 use Rattle.branches.specs.Wires.{wires_in}
 use Rattle.promises.specs.Parts.{three_of}

@@ -1,4 +1,4 @@
-use Rattle.std.proofs.Common.{◌≡◌, ℕ, ◌+◌, ◌-◌, ◌≤◌, List, length, sym, ap, ◌∙◌, subst, arith}
+use Rattle.std.proofs.Common.{◌≡◌, ℕ, ◌+◌, ◌≤◌, length, sym, ap, ◌∙◌, subst, arith}
 use Rattle.std.specs.List.{AllByRecursion}
 use Rattle.kinds.specs.Kind.{Kind, Lawful}
 use Rattle.locks.specs.Circuit.{mus}
@@ -10,10 +10,9 @@ use Rattle.theory.specs.declared.Branch.{Branch}
 use Rattle.theory.specs.declared.Branch.TheVariants.{One as one, Two as two, Three as three}
 use Rattle.branches.specs.Walks.{gates_at, gates_place, GatesStand}
 use Rattle.branches.specs.Views.{has}
-use Rattle.promises.specs.Parts.{products_in}
 use Rattle.promises.specs.Three.{Masked, Shaped, masks_on, wires_on, honest_view}
 use Rattle.promises.specs.declared.shape.Masks.{Masks}
-use Rattle.promises.proofs.Trios.{Trio, Turn, trio_start, next_there, next_for, next_some, trio_next, trio_end, trio_wires, trio_filled, room, few}
+use Rattle.promises.proofs.Trios.{trio_start, next_there, next_for, next_some, trio_next, trio_end, trio_wires, trio_filled, room, few}
 use Rattle.promises.proofs.run.run_three.Goals as goal
 
 masks_ok : (K : Kind) (m : ℕ) (r : Masks) → Masked K m r → (i : Branch) → AllByRecursion (Lawful K) (masks_on K m r i)

@@ -2,7 +2,6 @@ use Rattle.std.proofs.Common.{◌+◌, ◌-◌}
 use Rattle.locks.specs.Model.{standing}
 use Rattle.theory.specs.Algebra.{ops_of}
 use Rattle.theory.specs.Runs.{rerun, honest}
-use Rattle.theory.specs.declared.Branch.{Branch}
 use Rattle.branches.specs.Walks.{gates_at}
 use Rattle.promises.specs.Parts.{front_in}
 use Rattle.promises.specs.Three.{masks_on, wires_on, honest_view}

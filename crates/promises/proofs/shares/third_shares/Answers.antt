@@ -1,4 +1,4 @@
-use Rattle.std.proofs.Common.{◌≡◌, ℕ, ◌+◌, List, ◌∷◌, length, sym, refl, ap, ◌∙◌, arith}
+use Rattle.std.proofs.Common.{ℕ, ◌+◌, List, ◌∷◌, sym, ap, ◌∙◌, arith}
 use Rattle.theory.specs.Groups.{group}
 use Rattle.theory.proofs.Groups.{counted}
 use Rattle.promises.proofs.Fills.{fill_next, fill_end, thirds_from, thirds_more, thirds_none}

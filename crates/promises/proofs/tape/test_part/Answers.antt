@@ -1,6 +1,5 @@
-use Rattle.std.proofs.Common.{◌≡◌, ◌+◌, ◌≤◌, length, sym, ap, ◌∙◌, arith}
-use Rattle.kinds.specs.Groups.{group_length}
-use Rattle.theory.specs.Groups.{group, element_at}
+use Rattle.std.proofs.Common.{sym, arith}
+use Rattle.theory.specs.Groups.{group}
 use Rattle.theory.proofs.Groups.{counted}
 use Rattle.branches.proofs.GroupLemmas.{element_below}
 use Rattle.promises.proofs.Walks.{unlawful_below}
