@@ -7,10 +7,10 @@
 
    Prints `accepted` (status 0) or `refused NUMBER BRANCH PLACE` (status 1); docs/FAULTS.md tells what the numbers mean.
 
-   Built, after `rt staticlib exports`, by
+   Built, after `rt lib` in crates/exports, by
 
        cc -std=c11 -Iinclude -o verify_answer examples/verify_answer.c \
-           target/staticlib/libexports.a /opt/rattle/lib/librattle_c.a
+           crates/exports/out/libexports.a
 */
 
 #include <inttypes.h>

@@ -8,10 +8,10 @@ LOCK, FIRST and ANSWER are files with the bytes of the lock, the first message a
 
 Prints `accepted` (status 0) or `refused NUMBER BRANCH PLACE` (status 1); docs/FAULTS.md tells what the numbers mean.
 
-The shared library is made from the static one, which `rt staticlib exports` builds:
+The shared library is made from the static one, which `rt lib` in crates/exports builds:
 
     gcc -shared -o libpozhuntaka.so \
-        -Wl,--whole-archive target/staticlib/libexports.a -Wl,--no-whole-archive /opt/rattle/lib/librattle_c.a
+        -Wl,--whole-archive crates/exports/out/libexports.a -Wl,--no-whole-archive
 
 It is looked for in the current directory, or where the environment variable POZHUNTAKA_LIB says.
 """

@@ -12,8 +12,9 @@ fn main() {
         return;
     };
     let library = PathBuf::from(directory).join("libexports.a");
-    let runtime = PathBuf::from(env::var_os("PZ_C_LIB").unwrap_or("/opt/rattle/lib/librattle_c.a".into()));
-    for archive in [library, runtime] {
+    // The library calls nothing but the C library's memory functions; an archive to link beside it may be named.
+    let beside = env::var_os("PZ_C_LIB").map(PathBuf::from);
+    for archive in [Some(library), beside].into_iter().flatten() {
         // A relative path would be read from where the linker runs.
         let archive = archive.canonicalize().unwrap_or_else(|error| panic!("{}: {error}", archive.display()));
         println!("cargo:rerun-if-changed={}", archive.display());

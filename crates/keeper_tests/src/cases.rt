@@ -12,7 +12,7 @@ use verifier::verify::verify;
 
 mod answers;
 mod examples;
-mod promises;
+mod promising;
 mod stores;
 
 fn told<T>(reason: Reason, place: usize) -> Result<T, Fault> {
