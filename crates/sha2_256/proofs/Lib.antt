@@ -1,2 +1,4 @@
 pub mod Choice
 pub mod Steps
+pub mod Padding
+pub mod Whole

@@ -4,7 +4,7 @@
 ghost use Rattle.std.specs.Prelude.{◌≡◌, ◌+◌, ◌*◌, ◌/◌, ◌%◌, ◌^◌, ◌<◌, ◌++◌, length, take};
 ghost use Rattle.sha2_256.specs.Sha256.{padding, sha256_of, sha256_sealing};
 ghost use Rattle.std.proofs.Common.{lit≤};
-ghost use Rattle.sha2_256.specs.Whole.{length_digest, digest_bytes};
+ghost use Rattle.sha2_256.specs.Digest.{length_digest, digest_bytes};
 
 use compression::absorb;
 use faults::Fault;

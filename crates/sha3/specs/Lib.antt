@@ -1,5 +1,3 @@
 pub mod Keccak
 pub mod Sha3
-pub mod Sponge
-pub mod Shapes
-pub mod Rounds
+pub mod Digest

@@ -5,7 +5,7 @@ ghost use Rattle.std.specs.Prelude.{◌≡◌, ◌*◌, ◌%◌, ◌≤◌, ◌+
 ghost use Rattle.parts.specs.Blocks.{over_blocks};
 ghost use Rattle.sha3.specs.Sha3.{xored, absorbed, padding, sha3_256_of, sha3_256_sealing};
 ghost use Rattle.std.proofs.Common.{lit≤};
-ghost use Rattle.sha3.specs.Sponge.{length_digest, digest_bytes};
+ghost use Rattle.sha3.specs.Digest.{length_digest, digest_bytes};
 
 use faults::Fault;
 use keccak::permute;

@@ -1,6 +1,6 @@
 use Rattle.std.proofs.Common.{◌/◌, length, refl}
 use Rattle.std.proofs.lemmas.List.{take_rest, length-drop}
-use Rattle.sha2_256.specs.Whole.{whole}
+use Rattle.sha2_256.proofs.Whole.{whole}
 use Rattle.sha2_256.proofs.digest.Goals as goal
 
 pub returns : goal.returns

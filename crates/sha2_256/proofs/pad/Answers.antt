@@ -1,5 +1,5 @@
 use Rattle.std.proofs.Common.{refl}
-use Rattle.sha2_256.specs.Padding.{padded_tail}
+use Rattle.sha2_256.proofs.Padding.{padded_tail}
 use Rattle.sha2_256.proofs.pad.Goals as goal
 
 pub returns : goal.returns

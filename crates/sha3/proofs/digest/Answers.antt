@@ -1,6 +1,6 @@
 use Rattle.std.proofs.Common.{◌/◌, length, refl}
 use Rattle.std.proofs.lemmas.List.{take_rest}
-use Rattle.sha3.specs.Sponge.{whole}
+use Rattle.sha3.proofs.Sponge.{whole}
 use Rattle.sha3.proofs.digest.Goals as goal
 
 pub returns : goal.returns

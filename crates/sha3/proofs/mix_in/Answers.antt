@@ -3,8 +3,8 @@ use Rattle.std.proofs.lemmas.Bool.{cases_lt}
 use Rattle.std.proofs.lemmas.List.FromFn.{fill_by_all}
 use Rattle.parts.proofs.Filled.{over_more}
 use Rattle.sha3.specs.Sha3.{xored}
-use Rattle.sha3.specs.Shapes.{added_at}
-use Rattle.sha3.specs.Sponge.{added_past}
+use Rattle.sha3.proofs.Shapes.{added_at}
+use Rattle.sha3.proofs.Sponge.{added_past}
 use Rattle.sha3.proofs.mix_in.Goals as goal
 
 pub loop-i-preserved : goal.loop-i-preserved

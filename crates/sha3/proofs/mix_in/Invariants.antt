@@ -1,5 +1,5 @@
 use Rattle.parts.proofs.Filled.{Over}
-use Rattle.sha3.specs.Shapes.{added_at}
+use Rattle.sha3.proofs.Shapes.{added_at}
 use Rattle.sha3.proofs.mix_in.Given as goal
 
 abbrev pub invariant-loop-i : goal.invariant-loop-i

@@ -1,6 +1,6 @@
 use Rattle.std.proofs.Common.{arith}
 use Rattle.parts.proofs.Filled.{fill_more, fill_all}
-use Rattle.sha3.specs.Shapes.{column_at}
+use Rattle.sha3.proofs.Shapes.{column_at}
 use Rattle.sha3.proofs.keccak.columns.Goals as goal
 
 pub loop-x-preserved : goal.loop-x-preserved

@@ -1,5 +1,5 @@
 use Rattle.parts.proofs.Filled.{Filled}
-use Rattle.sha3.specs.Shapes.{column_at}
+use Rattle.sha3.proofs.Shapes.{column_at}
 use Rattle.sha3.proofs.keccak.columns.Given as goal
 
 abbrev pub invariant-loop-x : goal.invariant-loop-x

@@ -1,6 +1,6 @@
 use Rattle.std.proofs.Common.{◌≡◌, refl, arith}
 use Rattle.sha3.specs.Keccak.{keccak}
-use Rattle.sha3.specs.Rounds.{turn}
+use Rattle.sha3.proofs.Rounds.{turn}
 use Rattle.sha3.proofs.keccak.permute.Goals as goal
 
 pub loop-t-init : goal.loop-t-init

@@ -1,7 +1,7 @@
 use Rattle.std.proofs.Common.{arith}
 use Rattle.parts.proofs.Filled.{fill_more, fill_all}
 use Rattle.sha3.specs.Keccak.{ρ, π}
-use Rattle.sha3.specs.Shapes.{turned_at}
+use Rattle.sha3.proofs.Shapes.{turned_at}
 use Rattle.sha3.proofs.keccak.rho_pi.Goals as goal
 
 pub loop-i-preserved : goal.loop-i-preserved

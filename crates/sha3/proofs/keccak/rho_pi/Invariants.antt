@@ -1,5 +1,5 @@
 use Rattle.parts.proofs.Filled.{Filled}
-use Rattle.sha3.specs.Shapes.{turned_at}
+use Rattle.sha3.proofs.Shapes.{turned_at}
 use Rattle.sha3.proofs.keccak.rho_pi.Given as goal
 
 abbrev pub invariant-loop-i : goal.invariant-loop-i

@@ -1,17 +1,16 @@
 -- Blocks, padding and output of the sponge.
-use Rattle.std.specs.Prelude.{◌≡◌, ℕ, zero, suc, ◌+◌, ◌-◌, ◌*◌, ◌/◌, ◌%◌, ◌<◌, ◌≤◌, true, false, List, [], ◌∷◌, ◌++◌, length, take, drop, replicate, bit_or, nat_eq, slice_index, slice_set, refl}
+use Rattle.std.specs.Prelude.{◌≡◌, ℕ, ◌+◌, ◌-◌, ◌*◌, ◌/◌, ◌%◌, ◌<◌, ◌≤◌, true, false, List, [], ◌∷◌, ◌++◌, length, take, drop, replicate, bit_or, nat_eq, slice_index, slice_set}
 use Rattle.std.proofs.Common.{◌∙◌, inl, inr, arith}
 use Rattle.std.specs.Int.Bits.{xor_zero_r}
-use Rattle.std.specs.List.{flat_map, AllByRecursion}
+use Rattle.std.specs.List.{flat_map}
 use Rattle.std.proofs.lemmas.Bool.{cases_lt, eq-eqb, ne_eqb}
-use Rattle.std.proofs.lemmas.List.{append_assoc, length-append, length-take-le, length-drop, length-replicate, get_or_past, take_all, set_at, get_or_at, replicate_more}
+use Rattle.std.proofs.lemmas.List.{append_assoc, length-append, length-drop, length-replicate, get_or_past, take_all, set_at, get_or_at, replicate_more}
 use Rattle.parts.specs.Words.{le64}
 use Rattle.parts.specs.Blocks.{written, over_blocks}
-use Rattle.parts.proofs.Written.{blank, marked, length_joined, all_joined}
+use Rattle.parts.proofs.Written.{blank, marked}
 use Rattle.parts.proofs.Chained.{blocks_whole}
 use Rattle.sha3.specs.Sha3.{absorbed, padding, padded, sha3_256_of}
-use Rattle.sha3.specs.Shapes.{added_at}
-use Rattle.sha3.specs.Rounds.{length_keccak}
+use Rattle.sha3.proofs.Shapes.{added_at}
 
 -- past the block nothing is added
 pub added_past : (a p : List ℕ) (k : ℕ) → length p ≡ 136 → 17 ≤ k → added_at a p k ≡ slice_index a k
@@ -77,24 +76,3 @@ whole m tail s s' out q eq e t f o =
     let all = take_all 136 tail n in
     let w = blocks_whole absorbed 136 (replicate 25 0) m (padding (length m)) tail q 1 (omega arith) (all ∙ t) in
     cc
-
--- 25 lanes after any number of blocks
-length_after : (n : ℕ) (p : List ℕ) → length (over_blocks absorbed 136 (replicate 25 0) n p) ≡ 25
-unfolding over_blocks absorbed
-length_after zero p = refl
-length_after (suc n) p = length_keccak 23 _
-
-pub length_digest : (m : List ℕ) → length (sha3_256_of m) ≡ 32
-unfolding sha3_256_of
-length_digest m =
-    let s : List ℕ = over_blocks absorbed 136 (replicate 25 0) (length (padded m) / 136) (padded m) in
-    let b = length_after (length (padded m) / 136) (padded m) in
-    let a = length_joined le64 8 (λ x. refl) (take 4 s) in
-    let d = length-take-le 4 s (omega arith) in
-    omega arith
-
-pub digest_bytes : (m : List ℕ) → AllByRecursion (λ b. b < 256) (sha3_256_of m)
-unfolding sha3_256_of
-digest_bytes m =
-    all_joined (λ b. b < 256) le64
-    (λ x. (omega arith, (omega arith, (omega arith, (omega arith, (omega arith, (omega arith, (omega arith, (omega arith, tt))))))))) _
