@@ -54,7 +54,7 @@ fn worked<S: Sealer>(
 
 // Each pick, and seals of 1, 32 and 64 bytes.
 #[test]
-fn the_worked_example(rt: HostRuntime) -> Result<(), Fail> {
+fn worked_to_the_byte(rt: HostRuntime) -> Result<(), Fail> {
     let heap = rt.alloc();
     for pick in 1..4 {
         worked(&rt, heap, &Sha256, pick, 110)?;

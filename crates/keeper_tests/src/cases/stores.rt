@@ -34,7 +34,7 @@ fn rounds(
 }
 
 #[test]
-fn store_sizes(rt: HostRuntime) -> Result<(), Fail> {
+fn rounds_by_store_size(rt: HostRuntime) -> Result<(), Fail> {
     for (size, most) in [
         (0, 0),
         (143, 0),
@@ -86,7 +86,7 @@ fn bits(
 
 // The shortest and the longest view that a lock has; no lock has a view of 32 or 65,536 bytes.
 #[test]
-fn view_lengths(rt: HostRuntime) -> Result<(), Fail> {
+fn rounds_by_view_length(rt: HostRuntime) -> Result<(), Fail> {
     let heap = rt.alloc();
     assert!(rt; bits(heap, 0, 32, 200)? == told(Reason::WrongSize, 7));
     assert!(rt; bits(heap, 0, 33, 98)? == told(Reason::KeeperFull, 0));
