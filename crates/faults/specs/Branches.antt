@@ -1,10 +1,10 @@
 -- The three branches that a run is split into: their order, their numbers, and the pick that names one.
-use Rattle.std.specs.Prelude.{ℕ, zero, suc, Some, None, Ok, Err, Option, Result}
+use Rattle.std.specs.Prelude.{ℕ, zero, suc, Some, None, Option, Result, ok_or}
 use Rattle.faults.specs.declared.Fault.{Fault}
 use Rattle.faults.specs.declared.Reason.{Reason}
 use Rattle.faults.specs.Numbers.{fault}
-pub use Rattle.faults.specs.declared.Branch.{Branch}
-pub use Rattle.faults.specs.declared.Branch.TheVariants.{One as one, Two as two, Three as three}
+use Rattle.faults.specs.declared.Branch.{Branch}
+use Rattle.faults.specs.declared.Branch.TheVariants.{One as one, Two as two, Three as three}
 
 -- the branch after
 abbrev pub next : Branch → Branch
@@ -36,9 +36,5 @@ told_branch None = 0
 told_branch (Some b) = pick_byte b
 
 -- the pick, as a branch
-abbrev pub branch_or : Option Branch → Fault → Result Branch Fault
-branch_or None f = Err f
-branch_or (Some b) f = Ok b
-
 abbrev pub picked : ℕ → Result Branch Fault
-picked e = branch_or (branch_of e) (fault Reason.WrongPick e)
+picked e = ok_or (branch_of e) (fault Reason.WrongPick e)

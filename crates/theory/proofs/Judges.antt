@@ -1,5 +1,5 @@
 -- Verify, extract, promise, answer and drop are judged by their rules.
-use Rattle.std.proofs.Common.{◌≡◌, ℕ, suc, ◌+◌, ◌*◌, ◌<◌, ◌≤◌, Bool, true, eqb, ltb, leb, List, [], ◌∷◌, ◌++◌, length, get_or, Some, None, Ok, Err, Option, Result, sym, refl, ap, ◌∙◌, subst, ap₂, inl, inr, arith, ltb-true}
+use Rattle.std.proofs.Common.{◌≡◌, ℕ, suc, ◌+◌, ◌*◌, ◌<◌, ◌≤◌, Bool, true, eqb, ltb, leb, List, [], ◌∷◌, ◌++◌, length, get_or, Some, None, Ok, Err, Option, Result, sym, refl, ap, ◌∙◌, subst, ap₂, inl, inr, arith, ltb-true, ok_or}
 use lib.ListN.{length-map}
 use Rattle.std.proofs.lemmas.Bool.{eqb-true, eq-eqb, leb-true, le-leb, lt-ltb}
 use Rattle.faults.specs.declared.Fault.{Fault}
@@ -18,7 +18,7 @@ use Rattle.theory.specs.Branches.{Tape}
 use Rattle.theory.specs.Groups.{element_at}
 use Rattle.theory.specs.Messages.{pick_byte, branch_of, view_of, length_of_view, shares_at, masks_at, products_at, outs_at, outs_in, picked_view, next_view, key_of, tape_of, tape_shares_at, tape_masks_at}
 use Rattle.theory.specs.Tests.{both, first_at, lawful_at, unlike}
-use Rattle.theory.specs.Verdict.{branch_or, picked, wrong_product, verify_sizes, first_formed, view_formed, answer_formed, figure_holds, messages_right}
+use Rattle.theory.specs.Verdict.{picked, wrong_product, verify_sizes, first_formed, view_formed, answer_formed, figure_holds, messages_right}
 use Rattle.theory.specs.Extraction.{extract_then, extract_sizes, compared}
 use Rattle.theory.specs.Keeper.{Keeper, Given, promise_sizes, key_right, tape_right, promise_result, state_of, open_by}
 use Rattle.theory.specs.Rules.{Rule, Judged, must, all_equal, product_wires, IsPick, verify_size_rules, group_rule, view_rules, message_rules, extract_size_rules, beside_pick, promise_rules, RulesLaw}
@@ -73,8 +73,8 @@ never P f a wrong = record {
 no_pick : (pick : ℕ) → (IsPick pick → ⊥) → picked pick ≡ Err (fault Reason.WrongPick pick)
 no_pick pick wrong = go (branch_of pick) refl
   where
-    go : (o : Option Branch) → branch_of pick ≡ o → branch_or (branch_of pick) (fault Reason.WrongPick pick) ≡ Err (fault Reason.WrongPick pick)
-    go None e = ap (λ o. branch_or o (fault Reason.WrongPick pick)) e
+    go : (o : Option Branch) → branch_of pick ≡ o → ok_or (branch_of pick) (fault Reason.WrongPick pick) ≡ Err (fault Reason.WrongPick pick)
+    go None e = ap (λ o. ok_or o (fault Reason.WrongPick pick)) e
     go (Some b) e = absurd (wrong (b, pick_branch pick b e))
 
 module _ (K : Kind) (S : Sealing) (l : Circuit (List ℕ)) where
@@ -111,16 +111,16 @@ module _ (K : Kind) (S : Sealing) (l : Circuit (List ℕ)) where
     shares_long : (i : Branch) (w : List (List ℕ)) → length (at_outputs (ops_of K) l.outputs w) ≡ length (outs_in K l fm i)
     shares_long i w = length-map l.outputs _ ∙ sym (y_long i)
 
-    products_judged : Judged (all_equal (λ i. fault_in (pick_byte e) Reason.WrongProduct (get_or (product_wires l.inputs l.gates) i 0)) A.products (due (ops_of K) e (next e) l.gates A B) ∷ []) tt
-        (first_at (wrong_product K e (next e) l.inputs l.gates A B) (λ w. fault_in (pick_byte e) Reason.WrongProduct w))
+    products_judged : Judged (all_equal (λ i. fault_in e Reason.WrongProduct (get_or (product_wires l.inputs l.gates) i 0)) A.products (due (ops_of K) e (next e) l.gates A B) ∷ []) tt
+        (first_at (wrong_product K e (next e) l.inputs l.gates A B) (λ w. fault_in e Reason.WrongProduct w))
     products_judged =
         let sized = (view_for K l (picked_view K l an)).multiplied in
         let ws = product_wires l.inputs l.gates in
         let D = due (ops_of K) e (next e) l.gates A B in
-        subst (Judged (all_equal (λ i. fault_in (pick_byte e) Reason.WrongProduct (get_or ws i 0)) A.products D ∷ []) tt)
-        (wire_first ws (unlike A.products D) (λ w. fault_in (pick_byte e) Reason.WrongProduct w)
-        ∙ ap (λ o. first_at o (λ w. fault_in (pick_byte e) Reason.WrongProduct w)) (sym (wrong_is K e (next e) l.inputs l.gates A B sized)))
-        (equals (λ i. fault_in (pick_byte e) Reason.WrongProduct (get_or ws i 0)) A.products D (sized ∙ sym (length_due K e (next e) l.gates A B)))
+        subst (Judged (all_equal (λ i. fault_in e Reason.WrongProduct (get_or ws i 0)) A.products D ∷ []) tt)
+        (wire_first ws (unlike A.products D) (λ w. fault_in e Reason.WrongProduct w)
+        ∙ ap (λ o. first_at o (λ w. fault_in e Reason.WrongProduct w)) (sym (wrong_is K e (next e) l.inputs l.gates A B sized)))
+        (equals (λ i. fault_in e Reason.WrongProduct (get_or ws i 0)) A.products D (sized ∙ sym (length_due K e (next e) l.gates A B)))
 
     messages_judged : Judged (message_rules K S l fm e an) tt (messages_right K S l fm e an)
     messages_judged =
@@ -131,8 +131,8 @@ module _ (K : Kind) (S : Sealing) (l : Circuit (List ℕ)) where
         (by_test _ _ _ _ _ (by_eq _ _ _ _ _ _ (joined _ _ _ tt _ (view_judged 3 A) (view_judged (3 + length_of_view K l) B))))
         (joined _ _ _ tt _ (equals (λ i. fault Reason.MissedTarget i) (sum_of (ops_of K) y) (targets (ops_of K) l.outputs) sums_long)
         (by_bytes _ _ _ _ _ _ (by_bytes _ _ _ _ _ _
-        (joined _ _ _ tt _ (equals (λ i. fault_in (pick_byte e) Reason.WrongOutputShare i) _ (y e) (shares_long e _))
-        (joined _ _ _ tt _ (equals (λ i. fault_in (pick_byte (next e)) Reason.WrongOutputShare i) _ (y (next e)) (shares_long (next e) _)) products_judged))))))
+        (joined _ _ _ tt _ (equals (λ i. fault_in e Reason.WrongOutputShare i) _ (y e) (shares_long e _))
+        (joined _ _ _ tt _ (equals (λ i. fault_in (next e) Reason.WrongOutputShare i) _ (y (next e)) (shares_long (next e) _)) products_judged))))))
 
   extract_judged : (first a1 a2 a3 work1 work2 key : ℕ) → Judged (extract_size_rules K S l first a1 a2 a3 work1 work2 key) tt (extract_sizes K S l first a1 a2 a3 work1 work2 key)
   extract_judged first a1 a2 a3 work1 work2 key =
@@ -199,8 +199,8 @@ pub rules_law : RulesLaw
 rules_law = record {
   lock_first = λ K S lock f h. (
     (λ fm pick an work1 work2. ap (λ R. and_then R (λ l. both (verify_sizes K S l (length fm) (length an) work1 work2) (and_then (picked pick) (λ e. messages_right K S l fm e an)))) h),
-    (λ fm an work1 work2 key. ap (λ R. extract_then 0 R (λ l. extract_then 0 (extract_sizes K S l (length fm) (length (an one)) (length (an two)) (length (an three)) work1 work2 key) (λ _.
-        extract_then 1 (messages_right K S l fm one (an one)) (λ _. extract_then 2 (messages_right K S l fm two (an two)) (λ _. extract_then 3 (messages_right K S l fm three (an three)) (λ _. Ok (compared K S l an))))))) h),
+    (λ fm an work1 work2 key. ap (λ R. extract_then None R (λ l. extract_then None (extract_sizes K S l (length fm) (length (an one)) (length (an two)) (length (an three)) work1 work2 key) (λ _.
+        extract_then (Some one) (messages_right K S l fm one (an one)) (λ _. extract_then (Some two) (messages_right K S l fm two (an two)) (λ _. extract_then (Some three) (messages_right K S l fm three (an three)) (λ _. Ok (compared K S l an))))))) h),
     (λ k g a b. ap (λ R. and_then R (λ l. and_then (promise_sizes g l) (λ _.
         check (eqb (length_of_view g.kind l) k.view_size) (fault Reason.WrongSize 7) (check (ltb (length k.table) k.capacity) (fault Reason.KeeperFull k.capacity)
         (and_then (key_right g.kind l (key_of g.kind l g.key)) (λ _. and_then (tape_right g.kind l (tape_of g.kind l g.tape)) (λ _. Ok (suc (length k.table)))))))))
@@ -217,15 +217,15 @@ rules_law = record {
       (joined _ _ _ tt _ (sizes_judged K S l (length fm) (length an) work1 work2)
       (subst (λ R. Judged (must (IsPick pick) (fault Reason.WrongPick pick) ∷ []) tt (and_then R (λ e. messages_right K S l fm e an))) (sym (no_pick pick wrong)) (never (IsPick pick) (fault Reason.WrongPick pick) tt wrong)));
   extracting = λ K S lock l reads fm an work1 work2 key.
-      subst (λ R. Judged (beside_pick 0 (extract_size_rules K S l (length fm) (length (an one)) (length (an two)) (length (an three)) work1 work2 key)
-      ++ (beside_pick 1 (message_rules K S l fm one (an one)) ++ (beside_pick 2 (message_rules K S l fm two (an two)) ++ beside_pick 3 (message_rules K S l fm three (an three)))))
+      subst (λ R. Judged (beside_pick None (extract_size_rules K S l (length fm) (length (an one)) (length (an two)) (length (an three)) work1 work2 key)
+      ++ (beside_pick (Some one) (message_rules K S l fm one (an one)) ++ (beside_pick (Some two) (message_rules K S l fm two (an two)) ++ beside_pick (Some three) (message_rules K S l fm three (an three)))))
       (compared K S l an)
-      (extract_then 0 R (λ l. extract_then 0 (extract_sizes K S l (length fm) (length (an one)) (length (an two)) (length (an three)) work1 work2 key) (λ _.
-      extract_then 1 (messages_right K S l fm one (an one)) (λ _. extract_then 2 (messages_right K S l fm two (an two)) (λ _. extract_then 3 (messages_right K S l fm three (an three)) (λ _. Ok (compared K S l an)))))))) (sym reads)
-      (beside_joined 0 _ _ _ (compared K S l an) _ (extract_judged K S l (length fm) (length (an one)) (length (an two)) (length (an three)) work1 work2 key)
-      (beside_joined 1 _ _ _ (compared K S l an) _ (messages_judged K S l fm one (an one))
-      (beside_joined 2 _ _ _ (compared K S l an) _ (messages_judged K S l fm two (an two))
-      (beside_joined 3 _ [] _ (compared K S l an) _ (messages_judged K S l fm three (an three)) (nothing_asked (compared K S l an))))));
+      (extract_then None R (λ l. extract_then None (extract_sizes K S l (length fm) (length (an one)) (length (an two)) (length (an three)) work1 work2 key) (λ _.
+      extract_then (Some one) (messages_right K S l fm one (an one)) (λ _. extract_then (Some two) (messages_right K S l fm two (an two)) (λ _. extract_then (Some three) (messages_right K S l fm three (an three)) (λ _. Ok (compared K S l an)))))))) (sym reads)
+      (beside_joined None _ _ _ (compared K S l an) _ (extract_judged K S l (length fm) (length (an one)) (length (an two)) (length (an three)) work1 work2 key)
+      (beside_joined (Some one) _ _ _ (compared K S l an) _ (messages_judged K S l fm one (an one))
+      (beside_joined (Some two) _ _ _ (compared K S l an) _ (messages_judged K S l fm two (an two))
+      (beside_joined (Some three) _ [] _ (compared K S l an) _ (messages_judged K S l fm three (an three)) (nothing_asked (compared K S l an))))));
   promising = promise_judged;
   answering = λ k r e size.
       joined _ _ _ e _ (by_state r (state_of k.table r))

@@ -6,6 +6,7 @@ use Rattle.faults.specs.Outcomes.{check, and_then}
 use Rattle.kinds.specs.Kind.{Kind, Lawful, same_row}
 use Rattle.kinds.proofs.Same.{same_true}
 use Rattle.theory.specs.Tests.{Verdict, first_at, later, unlawful, unlike}
+use Rattle.faults.specs.declared.Branch.{Branch}
 use Rattle.theory.specs.declared.Extracted.{Extracted}
 use Rattle.theory.specs.declared.PickFault.{PickFault}
 use Rattle.theory.specs.Extraction.{beside, extract_then}
@@ -92,29 +93,29 @@ pub joined : {A : Type 0} (rs ss : List (Rule Fault)) (v : Verdict) (a : A) (w :
 joined rs ss v a w j k = subst (Judged (rs ++ ss) a) (then_seq v w) (in_turn rs ss v a w j k)
 
 -- a fault beside its pick
-abbrev tagged : ℕ → Verdict → Result (Unit {0}) PickFault
+abbrev tagged : Option Branch → Verdict → Result (Unit {0}) PickFault
 tagged e (Ok u) = Ok u
 tagged e (Err f) = Err (beside e f)
 
-kept_beside : (e : ℕ) (rs : List (Rule Fault)) → AllKept rs → AllKept (beside_pick e rs)
+kept_beside : (e : Option Branch) (rs : List (Rule Fault)) → AllKept rs → AllKept (beside_pick e rs)
 kept_beside e [] h = tt
 kept_beside e (r ∷ rs) h = (h.0, kept_beside e rs h.1)
 
-beside_kept : (e : ℕ) (rs : List (Rule Fault)) → AllKept (beside_pick e rs) → AllKept rs
+beside_kept : (e : Option Branch) (rs : List (Rule Fault)) → AllKept (beside_pick e rs) → AllKept rs
 beside_kept e [] h = tt
 beside_kept e (r ∷ rs) h = (h.0, beside_kept e rs h.1)
 
-broken_beside : (e : ℕ) (rs : List (Rule Fault)) (f : Fault) → FirstBroken rs f → FirstBroken (beside_pick e rs) (beside e f)
+broken_beside : (e : Option Branch) (rs : List (Rule Fault)) (f : Fault) → FirstBroken rs f → FirstBroken (beside_pick e rs) (beside e f)
 broken_beside e [] f h = absurd h
 broken_beside e (r ∷ rs) f (inl x) = inl (f, x, refl)
 broken_beside e (r ∷ rs) f (inr x) = inr (x.0, broken_beside e rs f x.1)
 
-beside_broken : (e : ℕ) (rs : List (Rule Fault)) (x : PickFault) → FirstBroken (beside_pick e rs) x → (f : Fault) × FirstBroken rs f × (x ≡ beside e f)
+beside_broken : (e : Option Branch) (rs : List (Rule Fault)) (x : PickFault) → FirstBroken (beside_pick e rs) x → (f : Fault) × FirstBroken rs f × (x ≡ beside e f)
 beside_broken e [] x h = absurd h
 beside_broken e (r ∷ rs) x (inl y) = (y.0, inl y.1, y.2)
 beside_broken e (r ∷ rs) x (inr y) = let q = beside_broken e rs x y.1 in (q.0, inr (y.0, q.1), q.2)
 
-tagged_judged : (e : ℕ) (rs : List (Rule Fault)) (v : Verdict) → Judged rs tt v → Judged (beside_pick e rs) tt (tagged e v)
+tagged_judged : (e : Option Branch) (rs : List (Rule Fault)) (v : Verdict) → Judged rs tt v → Judged (beside_pick e rs) tt (tagged e v)
 tagged_judged e rs (Ok u) j = record {
   accepts = λ h. kept_beside e rs (j.accepts refl);
   accepted = λ h. refl;
@@ -128,11 +129,11 @@ tagged_judged e rs (Err g) j = record {
   refused = λ x h. let q = beside_broken e rs x h in ap (λ f. Err (beside e f)) (err_same (j.refused q.0 q.1)) ∙ ap Err (sym q.2);
 }
 
-tag_seq : (e : ℕ) (v : Verdict) (w : Result Extracted PickFault) → seq (tagged e v) w ≡ extract_then e v (λ _. w)
+tag_seq : (e : Option Branch) (v : Verdict) (w : Result Extracted PickFault) → seq (tagged e v) w ≡ extract_then e v (λ _. w)
 tag_seq e (Ok u) w = refl
 tag_seq e (Err f) w = refl
 
-pub beside_joined : (e : ℕ) (rs : List (Rule Fault)) (ss : List (Rule PickFault)) (v : Verdict) (a : Extracted) (w : Result Extracted PickFault)
+pub beside_joined : (e : Option Branch) (rs : List (Rule Fault)) (ss : List (Rule PickFault)) (v : Verdict) (a : Extracted) (w : Result Extracted PickFault)
     → Judged rs tt v → Judged ss a w → Judged (beside_pick e rs ++ ss) a (extract_then e v (λ _. w))
 beside_joined e rs ss v a w j k = subst (Judged (beside_pick e rs ++ ss) a) (tag_seq e v w) (in_turn (beside_pick e rs) ss (tagged e v) a w (tagged_judged e rs v j) k)
 

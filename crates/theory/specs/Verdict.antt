@@ -1,7 +1,6 @@
 -- What verify answers, with all its faults in their order; and the same as a relation, Figure 6 of the ZKBoo paper.
-use Rattle.std.specs.Prelude.{◌≡◌, ℕ, suc, ◌+◌, ◌≤◌, Bool, true, cond, List, [], ◌∷◌, length, Some, None, Ok, Err, Option, Result, ◌==◌, nat_le, slice_index, slice_index_or}
+use Rattle.std.specs.Prelude.{◌≡◌, ℕ, suc, ◌+◌, ◌≤◌, Bool, true, cond, List, [], ◌∷◌, length, Some, None, Ok, Option, ◌==◌, nat_le, slice_index, slice_index_or}
 use Rattle.std.specs.List.{AllByRecursion}
-use Rattle.faults.specs.declared.Fault.{Fault}
 use Rattle.faults.specs.declared.Reason.{Reason}
 use Rattle.faults.specs.Numbers.{fault, fault_in}
 use Rattle.faults.specs.Outcomes.{check, and_then}
@@ -13,8 +12,9 @@ use Rattle.theory.specs.Algebra.{ops_of}
 use Rattle.theory.specs.Runs.{Branch, one, two, three, next, View, head, sum_of, at_outputs, targets, right, step, rerun}
 use Rattle.theory.specs.Branches.{Accepts}
 use Rattle.theory.specs.Lawfulness.{ViewLawful}
-use Rattle.theory.specs.Messages.{pick_byte, branch_of, Blinded, view_bytes, view_of, length_of_view, length_of_first, length_of_answer, length_of_work, shares_at, masks_at, products_at, outs_at, outs_in, seal_in, picked_view, next_view}
+use Rattle.theory.specs.Messages.{pick_byte, Blinded, view_bytes, view_of, length_of_view, length_of_first, length_of_answer, length_of_work, shares_at, masks_at, products_at, outs_at, outs_in, seal_in, picked_view, next_view}
 use Rattle.theory.specs.Tests.{Verdict, both, first_at, lawful_at, unlike}
+pub use Rattle.faults.specs.Branches.{picked}
 
 -- is p the product that the gate asks for? Gates without one ask for nothing
 abbrev pub is_right : Kind → Gate (List ℕ) → (A B : View (List ℕ)) → Bool
@@ -28,14 +28,6 @@ abbrev pub wrong_product : Kind → (i n : Branch) (own : ℕ) → List (Gate (L
 wrong_product K i n own [] A B = None
 wrong_product K i n own (g ∷ gs) A B =
     cond (is_right K g A B) (wrong_product K i n (suc own) gs (step (ops_of K) i g A) (step (ops_of K) n g B)) (Some own)
-
--- the pick, as a branch
-abbrev pub branch_or : Option Branch → Fault → Result Branch Fault
-branch_or None f = Err f
-branch_or (Some b) f = Ok b
-
-abbrev pub picked : ℕ → Result Branch Fault
-picked e = branch_or (branch_of e) (fault Reason.WrongPick e)
 
 module _ (K : Kind) (S : Sealing) (l : Circuit (List ℕ)) where
   -- 7: the view within the sealer's longest message, and the buffers' sizes
@@ -77,11 +69,11 @@ module _ (K : Kind) (S : Sealing) (l : Circuit (List ℕ)) where
       let A : View (List ℕ) = (view_of K l (picked_view K l an)).1 in
       let B : View (List ℕ) = (view_of K l (next_view K l an)).1 in
       both (first_at (unlike (sum_of (ops_of K) y) (targets (ops_of K) l.outputs)) (λ i. fault Reason.MissedTarget i))
-      (check (same_row (S.seal (picked_view K l an)) (seal_in K l S.size fm e)) (fault_in (pick_byte e) Reason.WrongSeal 0)
-      (check (same_row (S.seal (next_view K l an)) (seal_in K l S.size fm (next e))) (fault_in (pick_byte (next e)) Reason.WrongSeal 0)
-      (both (first_at (unlike (at_outputs (ops_of K) l.outputs (rerun (ops_of K) e l.gates A)) (y e)) (λ i. fault_in (pick_byte e) Reason.WrongOutputShare i))
-      (both (first_at (unlike (at_outputs (ops_of K) l.outputs (rerun (ops_of K) (next e) l.gates B)) (y (next e))) (λ i. fault_in (pick_byte (next e)) Reason.WrongOutputShare i))
-      (first_at (wrong_product K e (next e) l.inputs l.gates A B) (λ w. fault_in (pick_byte e) Reason.WrongProduct w))))))
+      (check (same_row (S.seal (picked_view K l an)) (seal_in K l S.size fm e)) (fault_in e Reason.WrongSeal 0)
+      (check (same_row (S.seal (next_view K l an)) (seal_in K l S.size fm (next e))) (fault_in (next e) Reason.WrongSeal 0)
+      (both (first_at (unlike (at_outputs (ops_of K) l.outputs (rerun (ops_of K) e l.gates A)) (y e)) (λ i. fault_in e Reason.WrongOutputShare i))
+      (both (first_at (unlike (at_outputs (ops_of K) l.outputs (rerun (ops_of K) (next e) l.gates B)) (y (next e))) (λ i. fault_in (next e) Reason.WrongOutputShare i))
+      (first_at (wrong_product K e (next e) l.inputs l.gates A B) (λ w. fault_in e Reason.WrongProduct w))))))
 
   -- 15 to 20, of the messages alone
   abbrev pub messages_right : (fm : List ℕ) → Branch → (an : List ℕ) → Verdict
