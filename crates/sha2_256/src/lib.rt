@@ -1,15 +1,14 @@
 // SHA-256 (FIPS 180-4) as a sealer.
 #![tactic(auto)]
 
-ghost use Rattle.std.specs.Prelude.{◌≡◌, ◌+◌, ◌*◌, ◌/◌, ◌%◌, ◌^◌, ◌<◌, ◌++◌, length, take};
-ghost use Rattle.sha2_256.specs.Sha256.{padding, sha256_of, sha256_sealing};
+ghost use Rattle.std.specs.Prelude.{◌≡◌, ◌+◌, ◌*◌, ◌/◌, ◌%◌, ◌^◌, ◌<◌, ◌++◌, length, take, refl};
+ghost use Rattle.sha2_256.specs.Sha256.{padding, longest_message, sha256_of, sha256_sealing};
 ghost use Rattle.std.proofs.Common.{lit≤};
 ghost use Rattle.sha2_256.specs.Digest.{length_digest, digest_bytes};
 
 use compression::absorb;
-use faults::Fault;
 use parts::{put, write_be};
-use seals::{Sealer, admit};
+use seals::Sealer;
 
 mod compression;
 
@@ -62,21 +61,19 @@ impl Sealer for Sha256 {
 
     const LONGEST: usize = 65_535;
 
+    ghost LENGTH = { 32 };
+
+    ghost LONGEST = { longest_message };
+
     ghost sealing = { sha256_sealing };
+
+    ghost length_is = { refl };
+
+    ghost longest_is = { refl };
 
     ghost sound = { record { some_size = lit≤ tt; most_size = lit≤ tt; sized = length_digest; bytes = digest_bytes } };
 
-    fn seal_length() -> usize {
-        Self::LENGTH
-    }
-
-    fn longest_message() -> usize {
-        Self::LONGEST
-    }
-
-    fn seal(&self, message: &[u8], out: &mut [u8]) -> Result<(), Fault> {
-        admit(Self::LONGEST, Self::LENGTH, message.len(), out.len())?;
+    fn digest(&self, message: &[u8], out: &mut [u8]) {
         digest(message, out);
-        Ok(())
     }
 }

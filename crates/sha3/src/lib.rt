@@ -1,16 +1,15 @@
 // SHA3-256 (FIPS 202) as a sealer.
 #![tactic(auto)]
 
-ghost use Rattle.std.specs.Prelude.{◌≡◌, ◌*◌, ◌%◌, ◌≤◌, ◌++◌, length};
+ghost use Rattle.std.specs.Prelude.{◌≡◌, ◌*◌, ◌%◌, ◌≤◌, ◌++◌, length, refl};
 ghost use Rattle.parts.specs.Blocks.{over_blocks};
-ghost use Rattle.sha3.specs.Sha3.{xored, absorbed, padding, sha3_256_of, sha3_256_sealing};
+ghost use Rattle.sha3.specs.Sha3.{xored, absorbed, padding, longest_message, sha3_256_of, sha3_256_sealing};
 ghost use Rattle.std.proofs.Common.{lit≤};
 ghost use Rattle.sha3.specs.Digest.{length_digest, digest_bytes};
 
-use faults::Fault;
 use keccak::permute;
 use parts::{put, word_le, write_le};
-use seals::{Sealer, admit};
+use seals::Sealer;
 
 mod keccak;
 
@@ -67,21 +66,19 @@ impl Sealer for Sha3_256 {
 
     const LONGEST: usize = 65_535;
 
+    ghost LENGTH = { 32 };
+
+    ghost LONGEST = { longest_message };
+
     ghost sealing = { sha3_256_sealing };
+
+    ghost length_is = { refl };
+
+    ghost longest_is = { refl };
 
     ghost sound = { record { some_size = lit≤ tt; most_size = lit≤ tt; sized = length_digest; bytes = digest_bytes } };
 
-    fn seal_length() -> usize {
-        Self::LENGTH
-    }
-
-    fn longest_message() -> usize {
-        Self::LONGEST
-    }
-
-    fn seal(&self, message: &[u8], out: &mut [u8]) -> Result<(), Fault> {
-        admit(Self::LONGEST, Self::LENGTH, message.len(), out.len())?;
+    fn digest(&self, message: &[u8], out: &mut [u8]) {
         digest(message, out);
-        Ok(())
     }
 }

@@ -1,13 +1,12 @@
 // Sealers that forget most of a message, for tests alone: unlike messages share a seal.
 #![tactic(auto)]
 
-ghost use Rattle.std.specs.Prelude.{◌≡◌};
+ghost use Rattle.std.specs.Prelude.{◌≡◌, refl};
 ghost use Rattle.toy_seals.specs.Toy.{last_of, toy};
 ghost use Rattle.std.proofs.Common.{lit≤};
 ghost use Rattle.toy_seals.specs.Sound.{toy_sound};
 
-use faults::Fault;
-use seals::{Sealer, admit};
+use seals::Sealer;
 
 // The last byte's seven low bits; 0 where there is no byte.
 fn last(message: &[u8]) -> u8
@@ -28,22 +27,20 @@ impl Sealer for Short {
 
     const LONGEST: usize = 48;
 
+    ghost LENGTH = { 1 };
+
+    ghost LONGEST = { 48 };
+
     ghost sealing = { toy 1 48 };
+
+    ghost length_is = { refl };
+
+    ghost longest_is = { refl };
 
     ghost sound = { toy_sound _ _ (lit≤ tt) (lit≤ tt) };
 
-    fn seal_length() -> usize {
-        Self::LENGTH
-    }
-
-    fn longest_message() -> usize {
-        Self::LONGEST
-    }
-
-    fn seal(&self, message: &[u8], out: &mut [u8]) -> Result<(), Fault> {
-        admit(Self::LONGEST, Self::LENGTH, message.len(), out.len())?;
+    fn digest(&self, message: &[u8], out: &mut [u8]) {
         out.fill(last(message));
-        Ok(())
     }
 }
 
@@ -56,21 +53,19 @@ impl Sealer for Wide {
 
     const LONGEST: usize = 65_535;
 
+    ghost LENGTH = { 64 };
+
+    ghost LONGEST = { 65535 };
+
     ghost sealing = { toy 64 65535 };
+
+    ghost length_is = { refl };
+
+    ghost longest_is = { refl };
 
     ghost sound = { toy_sound _ _ (lit≤ tt) (lit≤ tt) };
 
-    fn seal_length() -> usize {
-        Self::LENGTH
-    }
-
-    fn longest_message() -> usize {
-        Self::LONGEST
-    }
-
-    fn seal(&self, message: &[u8], out: &mut [u8]) -> Result<(), Fault> {
-        admit(Self::LONGEST, Self::LENGTH, message.len(), out.len())?;
+    fn digest(&self, message: &[u8], out: &mut [u8]) {
         out.fill(last(message));
-        Ok(())
     }
 }
