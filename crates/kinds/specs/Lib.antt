@@ -4,3 +4,4 @@ pub mod Numbers
 pub mod Three
 pub mod BitLaws
 pub mod ModularLaws
+pub mod Equal

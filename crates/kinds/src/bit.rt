@@ -1,12 +1,12 @@
 // The bit kind: rows 0 and 1, exclusive or, and.
-ghost use Rattle.std.specs.Prelude.{◌<◌, [], ◌∷◌};
+ghost use Rattle.std.specs.Prelude.{◌<◌, [], ◌∷◌, refl};
 ghost use Rattle.kinds.specs.Three.{bit_kind};
 ghost use Rattle.kinds.specs.BitLaws.{bit_laws};
 ghost use Rattle.std.proofs.Common.{rules, arith};
 
 use super::kind::{ElementKind, WrongLength};
 
-#[derive(Clone, Copy)]
+#[derive(Clone, Copy, PartialEq, Eq)]
 pub struct Bit {
     value: u8,
     ghost below: { value < 2 },
@@ -17,23 +17,25 @@ impl ElementKind for Bit {
 
     const WIDTH: usize = 1;
 
+    ghost NUMBER = { 1 };
+
+    ghost WIDTH = { 1 };
+
+    ghost number_is = { refl };
+
+    ghost width_is = { refl };
+
     ghost kind = { bit_kind };
 
     ghost row = { λ x. x.value ∷ [] };
+
+    ghost equal = { Prim.search rules };
 
     ghost laws = { bit_laws };
 
     ghost lawful = { Prim.search rules };
 
     ghost same = { Prim.grind (arith, Self.row.coded.inj) };
-
-    fn kind_number() -> u8 {
-        Self::NUMBER
-    }
-
-    fn row_length() -> usize {
-        Self::WIDTH
-    }
 
     fn zero() -> Bit {
         Bit { value: 0 }
@@ -53,10 +55,6 @@ impl ElementKind for Bit {
         Bit {
             value: self.value & other.value,
         }
-    }
-
-    fn equals(self, other: Bit) -> bool {
-        self.value == other.value
     }
 
     fn read(bytes: &[u8]) -> Option<Bit> {

@@ -1,13 +1,14 @@
 // The word kind: every row of four bytes, arithmetic modulo 2^32.
-ghost use Rattle.std.specs.Prelude.{◌<◌};
+ghost use Rattle.std.specs.Prelude.{◌<◌, refl};
 ghost use Rattle.kinds.specs.Numbers.{four_bytes};
 ghost use Rattle.kinds.specs.Three.{word_kind};
 ghost use Rattle.std.proofs.Common.{lit≤, rules, arith};
 ghost use Rattle.kinds.specs.ModularLaws.{modular_laws};
+ghost use Rattle.kinds.specs.Equal.{same_number};
 
 use super::kind::{ElementKind, WrongLength};
 
-#[derive(Clone, Copy)]
+#[derive(Clone, Copy, PartialEq, Eq)]
 pub struct Word {
     value: u32,
     ghost below: { value < 4294967296 },
@@ -18,23 +19,25 @@ impl ElementKind for Word {
 
     const WIDTH: usize = 4;
 
+    ghost NUMBER = { 2 };
+
+    ghost WIDTH = { 4 };
+
+    ghost number_is = { refl };
+
+    ghost width_is = { refl };
+
     ghost kind = { word_kind };
 
     ghost row = { λ x. four_bytes x.value };
+
+    ghost equal = { λ x y. same_number x.value y.value x.below y.below };
 
     ghost laws = { modular_laws 2 4294967296 (lit≤ tt) (lit≤ tt) };
 
     ghost lawful = { Prim.search rules };
 
     ghost same = { Prim.grind (arith, Self.row.coded.inj) };
-
-    fn kind_number() -> u8 {
-        Self::NUMBER
-    }
-
-    fn row_length() -> usize {
-        Self::WIDTH
-    }
 
     fn zero() -> Word {
         Word { value: 0 }
@@ -56,10 +59,6 @@ impl ElementKind for Word {
         Word {
             value: self.value.wrapping_mul(other.value),
         }
-    }
-
-    fn equals(self, other: Word) -> bool {
-        self.value == other.value
     }
 
     fn read(bytes: &[u8]) -> Option<Word> {

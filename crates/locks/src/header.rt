@@ -46,7 +46,7 @@ pub(crate) fn header<K: ElementKind>(bytes: &[u8]) -> Result<Counts, Fault>
     if bytes.len() < HEADER_LENGTH {
         return Err(Fault::at(Reason::Truncated, 0));
     }
-    if bytes[2] != K::kind_number() {
+    if bytes[2] != K::NUMBER {
         return Err(Fault::at(Reason::OutsideLimits, 2));
     }
     counts(bytes)

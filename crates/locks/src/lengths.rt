@@ -11,7 +11,7 @@ pub(crate) fn rows_length<K: ElementKind>(n: usize) -> usize
     ensures value { result ≡ n * K.kind.width }
     ensures bound { result ≤ n * 16 }
 {
-    n * K::row_length()
+    n * K::WIDTH
 }
 
 // The bytes of a group of n elements.

@@ -22,7 +22,7 @@ const SEAL_LENGTH: u8 = 32;
 fn counts_line<K: ElementKind>(heap: Global, lock: &Lock<'_>) -> Result<String, AllocError>
     ensures { IfOk result (λ t. string_bytes t ≡ counts_line K.kind (summary_of lock.now)) }
 {
-    let number = K::kind_number();
+    let number = K::NUMBER;
     let inputs = lock.inputs;
     let gates = lock.gates;
     let outputs = lock.outputs;

@@ -38,7 +38,7 @@ pub(crate) fn read_number(fields: &[u8], at: usize) -> usize
 fn wire_and_row<'a, K: ElementKind>(fields: &'a [u8], at: usize) -> Result<(usize, &'a [u8]), Fault>
     ensures { map_ok fields_of result ≡ wire_and_row K.kind at fields.now }
 {
-    let width = K::row_length();
+    let width = K::WIDTH;
     if fields.len() < 4 + width {
         return Err(Fault::at(Reason::Truncated, at));
     }
@@ -129,7 +129,7 @@ impl GateRecord<'_> {
     {
         match self {
             GateRecord::AddConstant { .. } | GateRecord::MultiplyConstant { .. } => 6
-                + K::row_length(),
+                + K::WIDTH,
             GateRecord::Add { .. } | GateRecord::Multiply { .. } => 10,
         }
     }

@@ -54,7 +54,7 @@ impl<'a> Reader<'a> {
         ensures stands { standing self.new ≡ past_output K.kind (map_ok output_of result) (standing self.old) }
     {
         let output = output_in::<K>(self.rest, self.at)?;
-        self.skip(6 + K::row_length());
+        self.skip(6 + K::WIDTH);
         Ok(output)
     }
 
