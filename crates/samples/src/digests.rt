@@ -31,7 +31,7 @@ pub const PUBLISHED: [(&[u8], &[u8; 64], &[u8; 64]); 4] = [
 ];
 
 // The first n bytes of i mod 251, at the edges of blocks and the longest: n, SHA-256, SHA3-256, as OpenSSL gives them.
-pub const PATTERN: [(usize, &[u8; 64], &[u8; 64]); 9] = [
+pub const PATTERN: [(u32, &[u8; 64], &[u8; 64]); 9] = [
     (
         55,
         b"463eb28e72f82e0a96c0a4cc53690c571281131f672aa229e0d45ae59b598b59",
