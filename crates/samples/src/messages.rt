@@ -73,7 +73,7 @@ impl Round {
         let mut bytes = joined(heap, b"FM", &self.outputs)?;
         for branch in [Branch::One, Branch::Two, Branch::Three] {
             let view = self.view(heap, branch)?;
-            let mut seal = vec![in heap; 0u8; S::seal_length()]?;
+            let mut seal = vec![in heap; 0u8; S::LENGTH]?;
             sealer.seal(view.as_slice(), seal.as_mut_slice())?;
             bytes.extend_from_slice(seal.as_slice())?;
         }
