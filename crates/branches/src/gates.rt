@@ -6,13 +6,12 @@ ghost use Rattle.locks.specs.Encoding.{GateFor};
 ghost use Rattle.locks.specs.Model.{gate_of};
 ghost use Rattle.theory.specs.Algebra.{ops_of};
 ghost use Rattle.theory.specs.Runs.{share, plus_constant, value, local, right};
-ghost use Rattle.branches.specs.Named.{the_branch};
 ghost use Rattle.branches.specs.Views.{has};
 ghost use Rattle.branches.specs.Wires.{wires_in};
 
-use crate::branch::Branch;
 use crate::rows::lawful_row;
 use crate::wires::{add_wire, wire};
+use faults::Branch;
 use kinds::kind::ElementKind;
 use locks::records::GateRecord;
 
@@ -40,7 +39,7 @@ fn product_share<K: ElementKind>(a: K, b: K, next_a: K, next_b: K, mask: K, next
 // Only branch 1 adds a constant.
 fn plus_constant<K: ElementKind>(branch: Branch, x: K, constant: &[u8]) -> K
     requires { Lawful K.kind constant.now }
-    ensures { K.ElementKind.row result ≡ plus_constant (ops_of K.kind) (the_branch branch) (K.ElementKind.row x) constant.now }
+    ensures { K.ElementKind.row result ≡ plus_constant (ops_of K.kind) branch (K.ElementKind.row x) constant.now }
 {
     match branch {
         Branch::One => x.sum(lawful_row(constant)),
@@ -120,7 +119,7 @@ fn branch_value<K: ElementKind>(
     requires fit { GateFor K.kind own (gate_of gate) }
     requires within { own * K.kind.width ≤ length work.now }
     requires lawful { AllByRecursion (Lawful K.kind) (wires_in K.kind own work.now) }
-    ensures { K.ElementKind.row result ≡ local (ops_of K.kind) (the_branch branch) (wires_in K.kind own work.now) (K.ElementKind.row product) (gate_of gate.entry) }
+    ensures { K.ElementKind.row result ≡ local (ops_of K.kind) branch (wires_in K.kind own work.now) (K.ElementKind.row product) (gate_of gate.entry) }
 {
     match gate {
         GateRecord::AddConstant { wire: a, constant } => plus_constant(
@@ -147,7 +146,7 @@ pub fn branch_gate<K: ElementKind>(
     requires fit { GateFor K.kind own (gate_of gate) }
     requires within { suc own * K.kind.width ≤ length work.old }
     requires lawful { AllByRecursion (Lawful K.kind) (wires_in K.kind own work.old) }
-    ensures { wires_in K.kind (suc own) work.new ≡ wires_in K.kind own work.old ++ (local (ops_of K.kind) (the_branch branch) (wires_in K.kind own work.old) (K.ElementKind.row product) (gate_of gate.entry) ∷ []) }
+    ensures { wires_in K.kind (suc own) work.new ≡ wires_in K.kind own work.old ++ (local (ops_of K.kind) branch (wires_in K.kind own work.old) (K.ElementKind.row product) (gate_of gate.entry) ∷ []) }
 {
     let x: K = branch_value(branch, work, own, gate, product);
     add_wire(work, own, x);

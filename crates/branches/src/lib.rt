@@ -1,7 +1,6 @@
 // What keeper and verifier share: wires in a work space, elements of groups, one gate in one branch, a lock's records walked again.
 #![tactic(auto)]
 
-pub mod branch;
 pub mod bytes;
 pub mod gates;
 pub mod groups;
