@@ -1,5 +1,5 @@
 -- The first wrong one, found by going through a list from the front.
-use Rattle.std.proofs.Common.{◌≡◌, ℕ, suc, ◌+◌, ◌<◌, ◌≤◌, Bool, true, false, cond, not, eqb, List, [], ◌∷◌, length, get_or, drop, is_some, Some, None, Option, sym, refl, ap, ◌∙◌, ap₂, add-zero, arith}
+use Rattle.std.proofs.Common.{◌≡◌, ℕ, suc, ◌+◌, ◌<◌, ◌≤◌, Bool, true, false, cond, not, eqb, List, [], ◌∷◌, length, get_or, drop, is_some, Some, None, Option, sym, refl, ap, ◌∙◌, ap₂, add-zero, arith, ◌&&◌}
 use Rattle.std.specs.List.{AllByRecursion}
 use Rattle.std.proofs.lemmas.List.{drop_more, drop_all}
 use Rattle.kinds.specs.Kind.{Kind, Lawful, same_row}
@@ -65,7 +65,7 @@ differ_same [] [] = refl
 differ_same [] (y ∷ ys) = refl
 differ_same (x ∷ xs) [] = refl
 differ_same (x ∷ xs) (y ∷ ys) = by (eqb x y) (differ xs ys) (differ_same xs ys) where
-  by : (b : Bool) (o : Option ℕ) → not (is_some o) ≡ same_row xs ys → not (is_some (cond b (later o) (Some 0))) ≡ cond b (same_row xs ys) false
+  by : (b : Bool) (o : Option ℕ) → not (is_some o) ≡ same_row xs ys → not (is_some (cond b (later o) (Some 0))) ≡ b && same_row xs ys
   by true None e = e
   by true (Some i) e = e
   by false o e = refl

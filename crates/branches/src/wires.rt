@@ -16,7 +16,7 @@ pub fn wire<K: ElementKind>(work: &[u8], own: usize, a: usize) -> K
     requires lawful { AllByRecursion (Lawful K.kind) (wires_in K.kind own work.now) }
     ensures { K.ElementKind.row result ≡ read (ops_of K.kind) (wires_in K.kind own work.now) a }
 {
-    row_of(work, a * K::row_length())
+    row_of(work, a * K::WIDTH)
 }
 
 // Writes wire `own`, behind those below it.
@@ -24,5 +24,5 @@ pub fn add_wire<K: ElementKind>(work: &mut [u8], own: usize, x: K)
     requires { suc own * K.kind.width ≤ length work.old }
     ensures { wires_in K.kind (suc own) work.new ≡ wires_in K.kind own work.old ++ (K.ElementKind.row x ∷ []) }
 {
-    write_row(work, own * K::row_length(), x);
+    write_row(work, own * K::WIDTH, x);
 }
