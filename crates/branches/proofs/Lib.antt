@@ -4,3 +4,4 @@ pub mod StepLemmas
 pub mod Firsts
 pub mod ViewLemmas
 pub mod Walked
+pub mod WalkSteps

@@ -4,6 +4,7 @@
 pub mod bytes;
 pub mod gates;
 pub mod groups;
+pub mod lock;
 pub mod rows;
 pub mod views;
 pub mod walk;
