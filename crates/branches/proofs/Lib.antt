@@ -5,3 +5,4 @@ pub mod Firsts
 pub mod ViewLemmas
 pub mod Walked
 pub mod WalkSteps
+pub mod HoldingLemmas

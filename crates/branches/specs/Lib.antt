@@ -1,4 +1,5 @@
 pub mod Rows
 pub mod Wires
 pub mod Walks
+pub mod Holding
 pub mod Views

@@ -3,6 +3,7 @@
 
 pub mod bytes;
 pub mod gates;
+pub mod group;
 pub mod groups;
 pub mod lock;
 pub mod rows;
