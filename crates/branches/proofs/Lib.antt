@@ -6,3 +6,4 @@ pub mod ViewLemmas
 pub mod Walked
 pub mod WalkSteps
 pub mod HoldingLemmas
+pub mod FilledLemmas

@@ -1,4 +1,4 @@
-use Rattle.std.proofs.Common.{◌≡◌, ℕ, suc, ◌-◌, ◌∷◌, List, sym, ap, ◌∙◌, arith}
+use Rattle.std.proofs.Common.{◌≡◌, ℕ, suc, ◌-◌, sym, ap, ◌∙◌, arith}
 use Rattle.theory.specs.Groups.{group}
 use Rattle.branches.proofs.HoldingLemmas.{first_lawful, others_left, element_step, none_left}
 use Rattle.branches.proofs.WalkSteps.{shorter}

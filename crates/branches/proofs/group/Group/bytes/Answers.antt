@@ -1,4 +1,4 @@
-use Rattle.std.proofs.Common.{ℕ, length, sym, ap, ◌∙◌}
+use Rattle.std.proofs.Common.{length, sym, ap, ◌∙◌}
 use Rattle.kinds.specs.Groups.{group_length}
 use Rattle.theory.specs.Groups.{group_bytes}
 use Rattle.theory.proofs.Groups.{counted, written_read}

@@ -1,4 +1,4 @@
-use Rattle.std.proofs.Common.{◌≡◌, Some, sym, ◌∙◌, arith}
+use Rattle.std.proofs.Common.{◌≡◌, Some, arith}
 use Rattle.theory.specs.Groups.{group}
 use Rattle.theory.specs.Tests.{unlawful}
 use Rattle.branches.proofs.Firsts.{unlawful_in_group}
