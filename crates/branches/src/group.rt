@@ -156,7 +156,7 @@ impl<'a, K: ElementKind> Iterator for Elements<'a, K> {
             return None;
         }
         let rest = self.rest;
-        let width = K::row_length();
+        let width = K::WIDTH;
         self.left -= 1;
         self.rest = &rest[width..];
         Some(lawful_row(&rest[..width]))

@@ -13,17 +13,17 @@ returns-then-self-eq0-clause-steps g c =
 pub lawful_row-requires : goal.lawful_row-requires
 lawful_row-requires g c =
     let left : c.self.inside.left ≡ suc (c.self.inside.left - 1) = omega arith in
-    first_lawful g.K.ElementKind.kind c.self.inside.left (c.self.inside.left - 1) c.self.inside.rest.now c.row_length-width.result left c.row_length-width.ensures c.self.invariant
+    first_lawful g.K.ElementKind.kind c.self.inside.left (c.self.inside.left - 1) c.self.inside.rest.now c.WIDTH-width.result left (c.WIDTH-width.ensures ∙ g.met.K.ElementKind.width_is) c.self.invariant
 
 pub invariant_of-self : goal.invariant_of-self
 invariant_of-self g c =
     let left : c.self.inside.left ≡ suc (c.self.inside.left - 1) = omega arith in
-    others_left g.K.ElementKind.kind c.self.inside.left (c.self.inside.left - 1) c.self.inside.rest.now c.row_length-width.result left c.row_length-width.ensures c.self.invariant
+    others_left g.K.ElementKind.kind c.self.inside.left (c.self.inside.left - 1) c.self.inside.rest.now c.WIDTH-width.result left (c.WIDTH-width.ensures ∙ g.met.K.ElementKind.width_is) c.self.invariant
 
 pub returns : goal.returns
 returns g c =
     let left : c.self.inside.left ≡ suc (c.self.inside.left - 1) = omega arith in
     let step = sym c.self.view_is
-    ∙ element_step g.K.ElementKind.kind c.self.inside.left (c.self.inside.left - 1) c.self.inside.rest.now c.row_length-width.result left c.row_length-width.ensures c.self.invariant
+    ∙ element_step g.K.ElementKind.kind c.self.inside.left (c.self.inside.left - 1) c.self.inside.rest.now c.WIDTH-width.result left (c.WIDTH-width.ensures ∙ g.met.K.ElementKind.width_is) c.self.invariant
     (g.K.ElementKind.row c.lawful_row.result) c.lawful_row.ensures in
     record { steps = step; goes = record { on = λ _. (tt, tt, shorter _ _ _ step); keeps = tt; rests = λ _. tt } }
