@@ -7,7 +7,7 @@ use Rattle.faults.specs.Outcomes.{check}
 use Rattle.faults.proofs.Passed.{err_ok, ok_same, check_ok, then_ok, map_ok_was}
 use Rattle.theory.specs.declared.RoundState.{RoundState}
 use Rattle.theory.specs.Runs.{next}
-use Rattle.theory.specs.declared.Branch.{Branch}
+use Rattle.faults.specs.declared.Branch.{Branch}
 use Rattle.theory.specs.Messages.{answer_bytes}
 use Rattle.theory.specs.Store.{put, round_at, round_length}
 use Rattle.theory.specs.Tests.{left}

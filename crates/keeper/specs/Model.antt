@@ -1,7 +1,7 @@
 -- The code's keeper as its values, and what its inner functions speak of.
 use Rattle.std.specs.Prelude.{ℕ, zero, suc, ◌+◌, ◌*◌, ◌≤◌, List, length, take, drop}
-use Rattle.theory.specs.declared.Branch.{Branch}
-use Rattle.theory.specs.declared.Branch.TheVariants.{One as one, Two as two, Three as three}
+use Rattle.faults.specs.declared.Branch.{Branch}
+use Rattle.faults.specs.declared.Branch.TheVariants.{One as one, Two as two, Three as three}
 use Rattle.theory.specs.Messages.{behind}
 use Rattle.theory.specs.declared.RoundState.{RoundState}
 use Rattle.theory.specs.Store.{rounds_in, round_at, round_length}

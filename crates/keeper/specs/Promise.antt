@@ -12,8 +12,8 @@ use Rattle.locks.specs.Lengths.{key_length, view_length, tape_length, first_leng
 use Rattle.seals.specs.Sealing.{Sealing}
 use Rattle.theory.specs.Tests.{Verdict, both}
 use Rattle.theory.specs.Algebra.{ops_of}
-use Rattle.theory.specs.declared.Branch.{Branch}
-use Rattle.theory.specs.declared.Branch.TheVariants.{One as one, Two as two, Three as three}
+use Rattle.faults.specs.declared.Branch.{Branch}
+use Rattle.faults.specs.declared.Branch.TheVariants.{One as one, Two as two, Three as three}
 use Rattle.theory.specs.Branches.{view, out_shares}
 use Rattle.theory.specs.Messages.{key_of, tape_of, blind_in, view_bytes, first_bytes, length_of_view}
 use Rattle.theory.specs.Keeper.{Keeper, Given, promise_sizes, key_right, tape_right}

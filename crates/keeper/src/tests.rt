@@ -41,7 +41,7 @@ fn test_buffers<K: ElementKind, S: Sealer>(lock: Lock<'_>, given: Lengths) -> Re
     test_size(work <= given.work2, 4)?;
     test_size(work <= given.work3, 5)?;
     test_size(
-        given.first == lock.first_length::<K>(S::seal_length() as u8),
+        given.first == lock.first_length::<K>(S::LENGTH as u8),
         6,
     )
 }
@@ -52,7 +52,7 @@ pub(crate) fn test_sizes<K: ElementKind, S: Sealer>(
 ) -> Result<(), Fault>
     ensures { result ≡ sizes_right K.ElementKind.kind S.Sealer.sealing lock.entry.inputs lock.entry.gates lock.entry.outputs lock.entry.products given }
 {
-    test_size(lock.view_length::<K>() <= S::longest_message(), 0)?;
+    test_size(lock.view_length::<K>() <= S::LONGEST, 0)?;
     test_size(given.key == lock.key_length::<K>(), 1)?;
     test_size(given.tape == lock.tape_length::<K>(), 2)?;
     test_buffers::<K, S>(lock, given)

@@ -9,8 +9,8 @@ use Rattle.theory.specs.Groups.{group}
 use Rattle.theory.specs.Messages.{behind}
 use Rattle.theory.specs.Algebra.{ops_of}
 use Rattle.theory.specs.Runs.{read, right}
-use Rattle.theory.specs.declared.Branch.{Branch}
-use Rattle.theory.specs.declared.Branch.TheVariants.{One as one, Two as two, Three as three}
+use Rattle.faults.specs.declared.Branch.{Branch}
+use Rattle.faults.specs.declared.Branch.TheVariants.{One as one, Two as two, Three as three}
 use Rattle.branches.specs.Views.{taken}
 use Rattle.promises.specs.Parts.{front_in, products_in, Put, Puts, three_of}
 use Rattle.promises.specs.Three.{put_product, due_at}

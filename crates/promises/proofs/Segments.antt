@@ -5,8 +5,8 @@ use Rattle.kinds.specs.Kind.{Kind}
 use Rattle.kinds.specs.Groups.{group_length}
 use Rattle.theory.specs.Groups.{group, group_bytes}
 use Rattle.theory.specs.Messages.{behind}
-use Rattle.theory.specs.declared.Branch.{Branch}
-use Rattle.theory.specs.declared.Branch.TheVariants.{One as one, Two as two, Three as three}
+use Rattle.faults.specs.declared.Branch.{Branch}
+use Rattle.faults.specs.declared.Branch.TheVariants.{One as one, Two as two, Three as three}
 use Rattle.theory.proofs.Groups.{cut, fronted, bytes_group}
 use Rattle.promises.specs.Parts.{front_in, products_in, Put}
 

@@ -6,8 +6,8 @@ use Rattle.kinds.specs.Groups.{group_length}
 use Rattle.locks.proofs.Steps.{to_end}
 use Rattle.theory.specs.Algebra.{ops_of}
 use Rattle.theory.specs.Runs.{less, at_outputs}
-use Rattle.theory.specs.declared.Branch.{Branch}
-use Rattle.theory.specs.declared.Branch.TheVariants.{One as one, Two as two, Three as three}
+use Rattle.faults.specs.declared.Branch.{Branch}
+use Rattle.faults.specs.declared.Branch.TheVariants.{One as one, Two as two, Three as three}
 use Rattle.theory.specs.Messages.{first_bytes}
 use Rattle.locks.specs.Circuit.{Output}
 use Rattle.promises.specs.First.{outs_on}

@@ -13,8 +13,8 @@ use Rattle.theory.specs.Groups.{group, group_bytes}
 use Rattle.theory.specs.Keeper.{tape_right}
 use Rattle.theory.specs.Messages.{view_bytes, key_of, tape_of, blind_in}
 use Rattle.theory.specs.Runs.{honest, rerun, less, at_outputs}
-use Rattle.theory.specs.declared.Branch.{Branch}
-use Rattle.theory.specs.declared.Branch.TheVariants.{One as one, Two as two, Three as three}
+use Rattle.faults.specs.declared.Branch.{Branch}
+use Rattle.faults.specs.declared.Branch.TheVariants.{One as one, Two as two, Three as three}
 use Rattle.theory.specs.Tests.{both, lawful_at}
 use Rattle.theory.proofs.Groups.{written_read}
 use Rattle.branches.specs.Walks.{Stands, circuit_of}

@@ -8,8 +8,8 @@ use Rattle.locks.specs.Model.{Standing, behind}
 use Rattle.locks.specs.Reading.{gate_in, gate_size}
 use Rattle.theory.specs.Algebra.{ops_of}
 use Rattle.theory.specs.Runs.{next, read, head, tail, rest, front, share, right, plus_constant, local, step, rerun, honest}
-use Rattle.theory.specs.declared.Branch.{Branch}
-use Rattle.theory.specs.declared.Branch.TheVariants.{One as one, Two as two, Three as three}
+use Rattle.faults.specs.declared.Branch.{Branch}
+use Rattle.faults.specs.declared.Branch.TheVariants.{One as one, Two as two, Three as three}
 use Rattle.theory.proofs.Groups.{counted}
 use Rattle.branches.specs.Views.{has}
 use Rattle.branches.specs.Walks.{gates_at, GatesStand}

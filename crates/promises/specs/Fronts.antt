@@ -3,7 +3,7 @@ use Rattle.std.specs.Prelude.{ℕ, List, ◌++◌}
 use Rattle.kinds.specs.Kind.{Kind}
 use Rattle.theory.specs.Algebra.{ops_of}
 use Rattle.theory.specs.Runs.{less}
-use Rattle.theory.specs.declared.Branch.{Branch}
+use Rattle.faults.specs.declared.Branch.{Branch}
 use Rattle.theory.specs.Groups.{group, group_bytes}
 use Rattle.promises.specs.Parts.{three_of}
 use Rattle.promises.specs.declared.tape.Tape.{Tape}

@@ -3,8 +3,8 @@ use Rattle.std.specs.Prelude.{◌≡◌, ℕ, ◌+◌, ◌*◌, List, take, drop
 use Rattle.kinds.specs.Kind.{Kind}
 use Rattle.kinds.specs.Groups.{group_length}
 use Rattle.locks.specs.Circuit.{Gate, ac, mc, ad, mu}
-use Rattle.theory.specs.declared.Branch.{Branch}
-use Rattle.theory.specs.declared.Branch.TheVariants.{One as one, Two as two, Three as three}
+use Rattle.faults.specs.declared.Branch.{Branch}
+use Rattle.faults.specs.declared.Branch.TheVariants.{One as one, Two as two, Three as three}
 use Rattle.theory.specs.Groups.{group}
 use Rattle.theory.specs.Messages.{behind}
 

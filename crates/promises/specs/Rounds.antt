@@ -6,8 +6,8 @@ use Rattle.kinds.specs.Groups.{group_length}
 use Rattle.locks.specs.declared.lock.Lock.{Lock}
 use Rattle.theory.specs.Algebra.{ops_of}
 use Rattle.theory.specs.Runs.{rerun, honest, at_outputs}
-use Rattle.theory.specs.declared.Branch.{Branch}
-use Rattle.theory.specs.declared.Branch.TheVariants.{One as one, Two as two, Three as three}
+use Rattle.faults.specs.declared.Branch.{Branch}
+use Rattle.faults.specs.declared.Branch.TheVariants.{One as one, Two as two, Three as three}
 use Rattle.theory.specs.Groups.{group, group_bytes}
 use Rattle.branches.specs.Walks.{Stands, circuit_of}
 use Rattle.promises.specs.declared.shape.Shape.{Shape}

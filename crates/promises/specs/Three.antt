@@ -6,7 +6,7 @@ use Rattle.kinds.specs.Groups.{group_length}
 use Rattle.locks.specs.Circuit.{Gate, ac, mc, ad, mu}
 use Rattle.theory.specs.Algebra.{ops_of}
 use Rattle.theory.specs.Runs.{next, View, read, right, local, honest}
-use Rattle.theory.specs.declared.Branch.{Branch}
+use Rattle.faults.specs.declared.Branch.{Branch}
 use Rattle.theory.specs.Groups.{group}
 use Rattle.branches.specs.Views.{taken}
 use Rattle.branches.specs.Wires.{wires_in}

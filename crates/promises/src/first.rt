@@ -6,8 +6,8 @@ ghost use Rattle.kinds.specs.Groups.{group_length};
 ghost use Rattle.locks.specs.Lengths.{first_length};
 ghost use Rattle.theory.specs.Algebra.{ops_of};
 ghost use Rattle.theory.specs.Runs.{at_outputs};
-ghost use Rattle.theory.specs.declared.Branch.{Branch as Name};
-ghost use Rattle.theory.specs.declared.Branch.TheVariants.{One as one, Two as two, Three as three};
+ghost use Rattle.faults.specs.declared.Branch.{Branch as Name};
+ghost use Rattle.faults.specs.declared.Branch.TheVariants.{One as one, Two as two, Three as three};
 ghost use Rattle.theory.specs.Groups.{group_bytes};
 ghost use Rattle.theory.specs.Messages.{first_bytes};
 ghost use Rattle.theory.specs.Store.{put};
@@ -69,7 +69,7 @@ fn put_seal<S: Sealer>(sealer: &S, view: &[u8], first: &mut [u8], at: usize)
     requires room { at + S.sealing.size ≤ length first.old }
     ensures { first.new ≡ put first.old at (S.sealing.seal view.now) }
 {
-    let _ = sealer.seal(view, &mut first[at..at + S::seal_length()]);
+    let _ = sealer.seal(view, &mut first[at..at + S::LENGTH]);
 }
 
 // The seals of a round's three views, behind the first `at` bytes.
@@ -79,7 +79,7 @@ fn put_seals<S: Sealer>(sealer: &S, views: &[u8], view_length: usize, first: &mu
     requires room { at + 3 * S.sealing.size ≡ length first.old }
     ensures { first.new ≡ take at first.old ++ (S.sealing.seal (view_part view_length views.now one) ++ (S.sealing.seal (view_part view_length views.now two) ++ S.sealing.seal (view_part view_length views.now three))) }
 {
-    let size = S::seal_length();
+    let size = S::LENGTH;
     put_seal(sealer, part(views, 0, view_length), first, at);
     put_seal(
         sealer,

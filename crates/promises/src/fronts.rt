@@ -3,7 +3,7 @@ ghost use Rattle.std.specs.Prelude.{◌≡◌, ◌+◌, ◌≤◌, List, ◌++�
 ghost use Rattle.std.specs.List.{AllByRecursion};
 ghost use Rattle.kinds.specs.Kind.{Lawful};
 ghost use Rattle.kinds.specs.Groups.{group_length};
-ghost use Rattle.theory.specs.declared.Branch.{Branch as Name};
+ghost use Rattle.faults.specs.declared.Branch.{Branch as Name};
 ghost use Rattle.theory.specs.Groups.{group, group_bytes};
 ghost use Rattle.promises.specs.Parts.{front_in};
 ghost use Rattle.promises.specs.Three.{Shaped};

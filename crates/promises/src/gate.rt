@@ -7,18 +7,17 @@ ghost use Rattle.locks.specs.Encoding.{GateFor};
 ghost use Rattle.locks.specs.Model.{gate_of};
 ghost use Rattle.theory.specs.Algebra.{ops_of};
 ghost use Rattle.theory.specs.Runs.{read};
-ghost use Rattle.theory.specs.declared.Branch.{Branch as Name};
-ghost use Rattle.theory.specs.declared.Branch.TheVariants.{One as one, Two as two, Three as three};
+ghost use Rattle.faults.specs.declared.Branch.{Branch as Name};
+ghost use Rattle.faults.specs.declared.Branch.TheVariants.{One as one, Two as two, Three as three};
 ghost use Rattle.theory.specs.Groups.{group};
 ghost use Rattle.theory.specs.Messages.{behind};
-ghost use Rattle.branches.specs.Named.{the_branch};
 ghost use Rattle.branches.specs.Views.{has, taken};
 ghost use Rattle.branches.specs.Wires.{wires_in};
 ghost use Rattle.promises.specs.Parts.{front_in, products_in, Put, Puts};
 ghost use Rattle.promises.specs.Three.{Masked, Shaped, masks_on, wires_on, due_at, Grows, put_product};
 
-use crate::shape::{Masks, Shape, before};
-use branches::branch::Branch;
+use crate::shape::{Masks, Shape};
+use faults::Branch;
 use branches::gates::{branch_gate, right_product};
 use branches::groups::{element, put_element};
 use kinds::kind::ElementKind;
@@ -57,12 +56,12 @@ fn put_product<K: ElementKind>(
 )
     requires shaped { Shaped K.kind shape (length part.old) }
     requires some { q + has (gate_of gate) ≤ shape.products }
-    ensures { Puts K.kind shape.products (shape.view_length * behind (the_branch branch) + shape.products_at) q (gate_of gate.entry) (K.ElementKind.row x) part.old part.new }
+    ensures { Puts K.kind shape.products (shape.view_length * behind branch + shape.products_at) q (gate_of gate.entry) (K.ElementKind.row x) part.old part.new }
 {
     if let GateRecord::Multiply { .. } = gate {
         put_at(
             part,
-            shape.view_length * before(branch) + shape.products_at,
+            shape.view_length * branch.before() + shape.products_at,
             shape.products,
             q,
             x,

@@ -48,7 +48,7 @@ fn meets<K: ElementKind>(output: OutputRecord<'_>, work: &[u8], wires: usize) ->
     ensures { result ≡ same_row (read (ops_of K.kind) (wires_in K.kind wires work.now) (output_of output.entry).wire) (output_of output.entry).target }
 {
     match K::read(output.target) {
-        Some(target) => wire::<K>(work, wires, output.wire).equals(target),
+        Some(target) => wire::<K>(work, wires, output.wire) == target,
         None => unreachable(),
     }
 }

@@ -1,10 +1,6 @@
 // Where things lie in a round's part of the store.
 ghost use Rattle.std.specs.Prelude.{◌≡◌, ◌+◌, ◌*◌, ◌≤◌, length, take, drop};
-ghost use Rattle.theory.specs.Messages.{behind};
 ghost use Rattle.theory.specs.Store.{put};
-ghost use Rattle.branches.specs.Named.{the_branch};
-
-use branches::branch::Branch;
 
 // The length of a view, how many products it has, and where they begin in it.
 #[derive(Clone, Copy)]
@@ -20,17 +16,6 @@ pub struct Masks<'a> {
     pub first: &'a [u8],
     pub second: &'a [u8],
     pub third: &'a [u8],
-}
-
-// How many branches stand before one.
-pub fn before(branch: Branch) -> usize
-    ensures { result ≡ behind (the_branch branch) }
-{
-    match branch {
-        Branch::One => 0,
-        Branch::Two => 1,
-        Branch::Three => 2,
-    }
 }
 
 // `size` bytes from an offset on.

@@ -5,13 +5,11 @@ ghost use Rattle.locks.specs.Lengths.{view_length, tape_length};
 ghost use Rattle.theory.specs.Groups.{group};
 ghost use Rattle.theory.specs.Messages.{behind};
 ghost use Rattle.theory.specs.Tests.{lawful_at};
-ghost use Rattle.branches.specs.Named.{the_branch};
 ghost use Rattle.promises.specs.Tapes.{shares_from, masks_from, Cut, Sized, parts_right};
 
-use crate::shape::{before, part};
-use branches::branch::Branch;
+use crate::shape::part;
 use branches::groups::{element_at, first_unlawful, group_length};
-use faults::{Fault, Reason};
+use faults::{Branch, Fault, Reason};
 use kinds::kind::ElementKind;
 use locks::lock::Lock;
 
@@ -31,18 +29,18 @@ pub struct Tape<'a> {
 // Where a branch's shares begin in a tape.
 fn shares_at<K: ElementKind>(lock: Lock<'_>, branch: Branch) -> usize
     requires short { view_length K.kind lock.inputs lock.products ≤ 65535 }
-    ensures { result ≡ shares_from K.kind lock.entry.inputs (behind (the_branch branch)) }
+    ensures { result ≡ shares_from K.kind lock.entry.inputs (behind branch) }
 {
-    96 + before(branch) * group_length::<K>(lock.inputs as usize)
+    96 + branch.before() * group_length::<K>(lock.inputs as usize)
 }
 
 // Where a branch's masks begin.
 fn masks_at<K: ElementKind>(lock: Lock<'_>, branch: Branch) -> usize
     requires short { view_length K.kind lock.inputs lock.products ≤ 65535 }
-    ensures { result ≡ masks_from K.kind lock.entry.inputs lock.entry.products (behind (the_branch branch)) }
+    ensures { result ≡ masks_from K.kind lock.entry.inputs lock.entry.products (behind branch) }
 {
     96 + 2 * group_length::<K>(lock.inputs as usize)
-        + before(branch) * group_length::<K>(lock.products as usize)
+        + branch.before() * group_length::<K>(lock.products as usize)
 }
 
 pub fn split_tape<'a, K: ElementKind>(lock: Lock<'_>, tape: &'a [u8]) -> Tape<'a>

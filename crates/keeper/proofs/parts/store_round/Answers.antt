@@ -1,6 +1,6 @@
 use Rattle.std.proofs.Common.{ℕ, ◌+◌, ◌*◌, ◌≤◌, ◌++◌, length, sym, refl, ap, ◌∙◌, ap₂, arith}
 use Rattle.theory.specs.Messages.{first_bytes}
-use Rattle.theory.specs.declared.Branch.TheVariants.{One as one, Two as two, Three as three}
+use Rattle.faults.specs.declared.Branch.TheVariants.{One as one, Two as two, Three as three}
 use Rattle.theory.specs.Store.{put}
 use Rattle.branches.specs.Walks.{circuit_of}
 use Rattle.promises.proofs.Told.{lock_counts, lock_short, cut_sized, view_is, outs_are}

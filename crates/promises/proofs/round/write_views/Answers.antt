@@ -6,7 +6,7 @@ use Rattle.locks.proofs.Steps.{to_end}
 use Rattle.theory.specs.Algebra.{ops_of}
 use Rattle.theory.specs.Groups.{group}
 use Rattle.theory.specs.Runs.{honest, rerun}
-use Rattle.theory.specs.declared.Branch.TheVariants.{Three as three}
+use Rattle.faults.specs.declared.Branch.TheVariants.{Three as three}
 use Rattle.branches.specs.Walks.{circuit_of}
 use Rattle.branches.specs.Wires.{wires_in}
 use Rattle.promises.specs.Parts.{three_of}

@@ -6,8 +6,8 @@ use Rattle.locks.specs.Locks.{Summary}
 use Rattle.locks.specs.Model.{Standing, standing, gate_of}
 use Rattle.theory.specs.Algebra.{ops_of}
 use Rattle.theory.specs.Runs.{rerun, honest}
-use Rattle.theory.specs.declared.Branch.{Branch}
-use Rattle.theory.specs.declared.Branch.TheVariants.{One as one, Two as two, Three as three}
+use Rattle.faults.specs.declared.Branch.{Branch}
+use Rattle.faults.specs.declared.Branch.TheVariants.{One as one, Two as two, Three as three}
 use Rattle.branches.specs.Walks.{gates_at, gates_place, GatesStand}
 use Rattle.branches.specs.Views.{has}
 use Rattle.promises.specs.Three.{Masked, Shaped, masks_on, wires_on, honest_view}
