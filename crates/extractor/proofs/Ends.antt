@@ -1,5 +1,5 @@
 -- How an extraction ends, by the first test that fails.
-use Rattle.std.proofs.Common.{◌≡◌, ℕ, ◌+◌, ◌≤◌, eqb, List, length, get_or, IfOk, Ok, Err, Result, sym, refl, ap, ◌∙◌, subst, arith}
+use Rattle.std.proofs.Common.{◌≡◌, ℕ, ◌+◌, ◌≤◌, eqb, List, length, get_or, IfOk, Ok, Err, Result, sym, refl, ap, ◌∙◌, subst, arith, Option, Some, None}
 use Rattle.std.specs.List.{AllByRecursion}
 use Rattle.faults.specs.declared.Fault.{Fault}
 use Rattle.faults.specs.declared.Reason.{Reason}
@@ -14,8 +14,8 @@ use Rattle.locks.specs.Lengths.{key_length, view_length, first_length, work_leng
 use Rattle.locks.specs.Locks.{Summary, summary_of}
 use Rattle.locks.specs.Reading.{marked, lock_of}
 use Rattle.seals.specs.Sealing.{Sealing}
-use Rattle.theory.specs.declared.Branch.{Branch}
-use Rattle.theory.specs.declared.Branch.TheVariants.{One as one, Two as two, Three as three}
+use Rattle.faults.specs.declared.Branch.{Branch}
+use Rattle.faults.specs.declared.Branch.TheVariants.{One as one, Two as two, Three as three}
 use Rattle.theory.specs.declared.Extracted.{Extracted}
 use Rattle.theory.specs.declared.PickFault.{PickFault}
 use Rattle.theory.specs.Groups.{group_bytes}
@@ -32,7 +32,7 @@ use Rattle.extractor.specs.Answers.{answers_of, Sized, key_written}
 use Rattle.extractor.specs.Sizes.{sizes_by}
 
 -- a pick passed, and one that did not
-passed : (e : ℕ) (v : Verdict) → at_pick e v ≡ Ok tt → v ≡ Ok tt
+passed : (e : Option Branch) (v : Verdict) → at_pick e v ≡ Ok tt → v ≡ Ok tt
 passed e (Ok u) h = refl
 passed e (Err f) h = let z : ◌≡◌ {A = ℕ} 0 1 = cc in absurd (omega arith)
 
@@ -41,7 +41,7 @@ then_passed (Ok u) s h = (refl, h)
 then_passed (Err p) s h = let z : ◌≡◌ {A = ℕ} 0 1 = cc in absurd (omega arith)
 
 -- the definition's chain is ours, with what comes at its end
-chained : (e : ℕ) (v : Verdict) (x : Result Extracted PickFault) → extract_then e v (λ _. x) ≡ then_pick (at_pick e v) (λ _. x)
+chained : (e : Option Branch) (v : Verdict) (x : Result Extracted PickFault) → extract_then e v (λ _. x) ≡ then_pick (at_pick e v) (λ _. x)
 chained e (Ok u) x = refl
 chained e (Err f) x = refl
 
@@ -61,22 +61,22 @@ module _ (K : Kind) (S : Sealing) (lock fm : List ℕ) (an : Branch → List ℕ
   pub key_stays : (p : PickFault) → whole ≡ Err p → key ≡ left_key
   key_stays p h = sym (ap (λ r. key_left r (group_bytes K (key_from K S (read_circuit (lock_of K lock)) an)) key) h)
 
-  pub lock_refused : (f : Fault) → lock_of K lock ≡ Err f → whole ≡ Err (beside 0 f)
-  lock_refused f h = ap (λ r. extract_then 0 r (λ l. extract_then 0 (extract_sizes K S l (length fm) (length (an one)) (length (an two)) (length (an three)) work1 work2 (length key)) (λ _.
-      extract_then 1 (messages_right K S l fm one (an one)) (λ _. extract_then 2 (messages_right K S l fm two (an two)) (λ _. extract_then 3 (messages_right K S l fm three (an three)) (λ _. Ok (compared K S l an))))))) h
+  pub lock_refused : (f : Fault) → lock_of K lock ≡ Err f → whole ≡ Err (beside None f)
+  lock_refused f h = ap (λ r. extract_then None r (λ l. extract_then None (extract_sizes K S l (length fm) (length (an one)) (length (an two)) (length (an three)) work1 work2 (length key)) (λ _.
+      extract_then (Some one) (messages_right K S l fm one (an one)) (λ _. extract_then (Some two) (messages_right K S l fm two (an two)) (λ _. extract_then (Some three) (messages_right K S l fm three (an three)) (λ _. Ok (compared K S l an))))))) h
 
   module _ (l : Circuit (List ℕ)) (read : lock_of K lock ≡ Ok l) where
     abbrev sizes : Verdict
     sizes = extract_sizes K S l (length fm) (length (an one)) (length (an two)) (length (an three)) work1 work2 (length key)
 
-    behind_lock : whole ≡ extract_then 0 sizes (λ _.
-        extract_then 1 (messages_right K S l fm one (an one)) (λ _. extract_then 2 (messages_right K S l fm two (an two)) (λ _. extract_then 3 (messages_right K S l fm three (an three)) (λ _. Ok (compared K S l an)))))
-    behind_lock = ap (λ r. extract_then 0 r (λ l. extract_then 0 (extract_sizes K S l (length fm) (length (an one)) (length (an two)) (length (an three)) work1 work2 (length key)) (λ _.
-        extract_then 1 (messages_right K S l fm one (an one)) (λ _. extract_then 2 (messages_right K S l fm two (an two)) (λ _. extract_then 3 (messages_right K S l fm three (an three)) (λ _. Ok (compared K S l an))))))) read
+    behind_lock : whole ≡ extract_then None sizes (λ _.
+        extract_then (Some one) (messages_right K S l fm one (an one)) (λ _. extract_then (Some two) (messages_right K S l fm two (an two)) (λ _. extract_then (Some three) (messages_right K S l fm three (an three)) (λ _. Ok (compared K S l an)))))
+    behind_lock = ap (λ r. extract_then None r (λ l. extract_then None (extract_sizes K S l (length fm) (length (an one)) (length (an two)) (length (an three)) work1 work2 (length key)) (λ _.
+        extract_then (Some one) (messages_right K S l fm one (an one)) (λ _. extract_then (Some two) (messages_right K S l fm two (an two)) (λ _. extract_then (Some three) (messages_right K S l fm three (an three)) (λ _. Ok (compared K S l an))))))) read
 
-    pub sizes_refused : (f : Fault) → sizes ≡ Err f → whole ≡ Err (beside 0 f)
-    sizes_refused f h = behind_lock ∙ ap (λ r. extract_then 0 r (λ _.
-        extract_then 1 (messages_right K S l fm one (an one)) (λ _. extract_then 2 (messages_right K S l fm two (an two)) (λ _. extract_then 3 (messages_right K S l fm three (an three)) (λ _. Ok (compared K S l an)))))) h
+    pub sizes_refused : (f : Fault) → sizes ≡ Err f → whole ≡ Err (beside None f)
+    sizes_refused f h = behind_lock ∙ ap (λ r. extract_then None r (λ _.
+        extract_then (Some one) (messages_right K S l fm one (an one)) (λ _. extract_then (Some two) (messages_right K S l fm two (an two)) (λ _. extract_then (Some three) (messages_right K S l fm three (an three)) (λ _. Ok (compared K S l an)))))) h
 
     behind_sizes : sizes ≡ Ok tt → whole ≡ then_pick (all_right K S l fm an) (λ _. Ok (compared K S l an))
     behind_sizes h =
@@ -85,11 +85,11 @@ module _ (K : Kind) (S : Sealing) (lock fm : List ℕ) (an : Branch → List ℕ
         let m3 = messages_right K S l fm three (an three) in
         let x : Result Extracted PickFault = Ok (compared K S l an) in
         behind_lock
-        ∙ ap (λ r. extract_then 0 r (λ _. extract_then 1 m1 (λ _. extract_then 2 m2 (λ _. extract_then 3 m3 (λ _. x))))) h
-        ∙ ap (λ r. extract_then 1 m1 (λ _. extract_then 2 m2 (λ _. r))) (chained 3 m3 x)
-        ∙ ap (λ r. extract_then 1 m1 (λ _. r)) (chained 2 m2 (then_pick (at_pick 3 m3) (λ _. x)))
-        ∙ chained 1 m1 (then_pick (at_pick 2 m2) (λ _. then_pick (at_pick 3 m3) (λ _. x)))
-        ∙ turned (at_pick 1 m1) (at_pick 2 m2) (at_pick 3 m3) x
+        ∙ ap (λ r. extract_then None r (λ _. extract_then (Some one) m1 (λ _. extract_then (Some two) m2 (λ _. extract_then (Some three) m3 (λ _. x))))) h
+        ∙ ap (λ r. extract_then (Some one) m1 (λ _. extract_then (Some two) m2 (λ _. r))) (chained (Some three) m3 x)
+        ∙ ap (λ r. extract_then (Some one) m1 (λ _. r)) (chained (Some two) m2 (then_pick (at_pick (Some three) m3) (λ _. x)))
+        ∙ chained (Some one) m1 (then_pick (at_pick (Some two) m2) (λ _. then_pick (at_pick (Some three) m3) (λ _. x)))
+        ∙ turned (at_pick (Some one) m1) (at_pick (Some two) m2) (at_pick (Some three) m3) x
 
     pub answers_refused : (p : PickFault) → sizes ≡ Ok tt → all_right K S l fm an ≡ Err p → whole ≡ Err p
     answers_refused p h e = behind_sizes h ∙ ap (λ r. then_pick r (λ _. Ok (compared K S l an))) e
@@ -125,11 +125,11 @@ shares_lawful K S l fm e an h =
 pub each_right : (K : Kind) (S : Sealing) (l : Circuit (List ℕ)) (fm : List ℕ) (an : Branch → List ℕ) → all_right K S l fm an ≡ Ok tt
     → (messages_right K S l fm one (an one) ≡ Ok tt) × (messages_right K S l fm two (an two) ≡ Ok tt) × (messages_right K S l fm three (an three) ≡ Ok tt)
 each_right K S l fm an h =
-    let a = then_passed (at_pick 1 (messages_right K S l fm one (an one))) _ h in
-    let b = then_passed (at_pick 2 (messages_right K S l fm two (an two))) _ a.1 in
-    (passed 1 _ a.0, passed 2 _ b.0, passed 3 _ b.1)
+    let a = then_passed (at_pick (Some one) (messages_right K S l fm one (an one))) _ h in
+    let b = then_passed (at_pick (Some two) (messages_right K S l fm two (an two))) _ a.1 in
+    (passed (Some one) _ a.0, passed (Some two) _ b.0, passed (Some three) _ b.1)
 
-pub at_ok : {A : Type 0} (e : ℕ) (r : Result A Fault) (a : A) → at_pick e r ≡ Ok a → r ≡ Ok a
+pub at_ok : {A : Type 0} (e : Option Branch) (r : Result A Fault) (a : A) → at_pick e r ≡ Ok a → r ≡ Ok a
 at_ok e (Ok b) a h = ap Ok (same h) where
   same : {A : Type 0} {x y : A} → ◌≡◌ {A = Result A PickFault} (Ok x) (Ok y) → x ≡ y
   same h = cc

@@ -5,7 +5,7 @@ use Rattle.kinds.specs.Kind.{Kind, Lawful}
 use Rattle.locks.specs.declared.lock.Lock.{Lock}
 use Rattle.locks.specs.Lengths.{answer_length}
 use Rattle.theory.specs.declared.Extracted.{Extracted}
-use Rattle.theory.specs.declared.Branch.{Branch}
+use Rattle.faults.specs.declared.Branch.{Branch}
 use Rattle.theory.specs.Messages.{view_of, picked_view}
 use Rattle.theory.specs.Extraction.{by_branch}
 use Rattle.branches.specs.Walks.{circuit_of}

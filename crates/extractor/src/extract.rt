@@ -11,9 +11,9 @@ use crate::answers::Answers;
 use crate::outcome::give;
 use crate::picks::at_pick;
 use crate::sizes::sizes_right;
-use branches::branch::Branch;
 use branches::bytes::clear;
 use branches::walk::open_lock;
+use faults::Branch;
 use kinds::kind::ElementKind;
 use locks::lock::Lock;
 use seals::Sealer;
@@ -39,11 +39,11 @@ fn accepted<K: ElementKind, S: Sealer>(
 {
     at_pick(
         messages_right::<K, S>(sealer, lock, first, Branch::One, answers.one, work1, work2),
-        1,
+        Some(Branch::One),
     )?;
     at_pick(
         messages_right::<K, S>(sealer, lock, first, Branch::Two, answers.two, work1, work2),
-        2,
+        Some(Branch::Two),
     )?;
     at_pick(
         messages_right::<K, S>(
@@ -55,7 +55,7 @@ fn accepted<K: ElementKind, S: Sealer>(
             work1,
             work2,
         ),
-        3,
+        Some(Branch::Three),
     )
 }
 
@@ -72,7 +72,7 @@ fn outcome<K: ElementKind, S: Sealer>(
     ensures outcome { result ≡ extracted K.kind S.sealing lock.now first.now (answers_of answers.entry) (length work1.old) (length work2.old) (length key.old) }
     ensures key { key.new ≡ key_after K.kind S.sealing lock.now first.now (answers_of answers.entry) (length work1.old) (length work2.old) key.old }
 {
-    let lock = at_pick(open_lock::<K>(lock), 0)?;
+    let lock = at_pick(open_lock::<K>(lock), None)?;
     let sizes = sizes_right::<K, S>(
         lock,
         first.len(),
@@ -83,7 +83,7 @@ fn outcome<K: ElementKind, S: Sealer>(
         work2.len(),
         key.len(),
     );
-    at_pick(sizes, 0)?;
+    at_pick(sizes, None)?;
     accepted::<K, S>(sealer, lock, first, answers, work1, work2)?;
     Ok(give::<K, S>(lock, answers, key))
 }

@@ -13,6 +13,7 @@ use crate::answers::Answers;
 use crate::copies::or_collision;
 use crate::key::write_key;
 use branches::views::{answer_views, view_parts};
+use faults::Branch;
 use kinds::kind::ElementKind;
 use locks::lock::Lock;
 use seals::Sealer;
@@ -27,8 +28,9 @@ fn compare<K: ElementKind, S: Sealer>(lock: Lock<'_>, answers: Answers<'_>) -> E
     let (one, two_again) = answer_views::<K>(lock, answers.one);
     let (two, three_again) = answer_views::<K>(lock, answers.two);
     let (three, one_again) = answer_views::<K>(lock, answers.three);
-    let last = or_collision(3, three, three_again, Extracted::Key);
-    or_collision(1, one, one_again, or_collision(2, two, two_again, last))
+    let last = or_collision(Branch::Three, three, three_again, Extracted::Key);
+    let later = or_collision(Branch::Two, two, two_again, last);
+    or_collision(Branch::One, one, one_again, later)
 }
 
 // Writes the sums of the shares in the views that the picks opened first.

@@ -8,8 +8,8 @@ use Rattle.theory.specs.Algebra.{ops_of}
 use Rattle.theory.specs.Groups.{group}
 use Rattle.theory.specs.Messages.{behind, outs_at, outs_in}
 use Rattle.theory.specs.Runs.{sum, sum_of}
-use Rattle.theory.specs.declared.Branch.{Branch}
-use Rattle.theory.specs.declared.Branch.TheVariants.{One as one, Two as two, Three as three}
+use Rattle.faults.specs.declared.Branch.{Branch}
+use Rattle.faults.specs.declared.Branch.TheVariants.{One as one, Two as two, Three as three}
 use Rattle.verifier.specs.declared.outputs.Shares.{Shares}
 use Rattle.verifier.specs.Shares.{bytes_on, shares_on, SharesOpen}
 

@@ -9,7 +9,7 @@ use Rattle.locks.specs.Model.{Standing, behind}
 use Rattle.theory.specs.Algebra.{ops_of}
 use Rattle.theory.specs.Groups.{group}
 use Rattle.theory.specs.Runs.{read, head, right, local, step, rerun}
-use Rattle.theory.specs.declared.Branch.{Branch}
+use Rattle.faults.specs.declared.Branch.{Branch}
 use Rattle.theory.specs.Verdict.{is_right, wrong_product}
 use Rattle.branches.specs.Views.{has, taken, view_at, Opens}
 use Rattle.branches.specs.Walks.{gates_at, GatesStand}

@@ -7,8 +7,8 @@ use Rattle.locks.specs.Reading.{output_in}
 use Rattle.locks.specs.Model.{Standing}
 use Rattle.theory.specs.Algebra.{ops_of}
 use Rattle.theory.specs.Runs.{read, sum, sum_of}
-use Rattle.theory.specs.declared.Branch.{Branch}
-use Rattle.theory.specs.declared.Branch.TheVariants.{One as one, Two as two, Three as three}
+use Rattle.faults.specs.declared.Branch.{Branch}
+use Rattle.faults.specs.declared.Branch.TheVariants.{One as one, Two as two, Three as three}
 use Rattle.branches.proofs.StepLemmas.{read_sum, length_sum}
 use Rattle.branches.proofs.Walked.{Walking, output_here}
 

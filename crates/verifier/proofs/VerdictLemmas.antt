@@ -11,8 +11,8 @@ use Rattle.theory.specs.Groups.{group}
 use Rattle.theory.specs.Lawfulness.{ViewLawful}
 use Rattle.theory.specs.Messages.{pick_byte, view_of, outs_at, outs_in, picked_view, next_view, shares_at, masks_at, products_at, length_of_view}
 use Rattle.theory.specs.Runs.{View}
-use Rattle.theory.specs.declared.Branch.{Branch}
-use Rattle.theory.specs.declared.Branch.TheVariants.{One as one, Two as two, Three as three}
+use Rattle.faults.specs.declared.Branch.{Branch}
+use Rattle.faults.specs.declared.Branch.TheVariants.{One as one, Two as two, Three as three}
 use Rattle.theory.specs.Tests.{lawful_at}
 use Rattle.theory.specs.Verdict.{first_formed, view_formed, answer_formed}
 use Rattle.theory.proofs.Checked.{both_ok, group_ok}

@@ -11,9 +11,9 @@ use Rattle.locks.specs.Locks.{Summary}
 use Rattle.seals.specs.Sealing.{Sealing}
 use Rattle.theory.specs.Algebra.{ops_of}
 use Rattle.theory.specs.Lawfulness.{ViewLawful}
-use Rattle.theory.specs.Messages.{pick_byte, view_of, outs_in, seal_in, picked_view, next_view}
+use Rattle.theory.specs.Messages.{view_of, outs_in, seal_in, picked_view, next_view}
 use Rattle.theory.specs.Runs.{next, View, sum_of, at_outputs, targets, rerun}
-use Rattle.theory.specs.declared.Branch.{Branch}
+use Rattle.faults.specs.declared.Branch.{Branch}
 use Rattle.theory.specs.Tests.{Verdict, both, first_at, unlike}
 use Rattle.theory.specs.Verdict.{wrong_product}
 
@@ -36,10 +36,10 @@ module _ (K : Kind) (l : Circuit (List ℕ)) (fm : List ℕ) where
 
   -- the wires of a branch give its output shares
   abbrev pub gives_shares : Branch → (wires : List (List ℕ)) → Verdict
-  gives_shares i ws = first_at (unlike (at_outputs (ops_of K) l.outputs ws) (outs_in K l fm i)) (λ j. fault_in (pick_byte i) Reason.WrongOutputShare j)
+  gives_shares i ws = first_at (unlike (at_outputs (ops_of K) l.outputs ws) (outs_in K l fm i)) (λ j. fault_in i Reason.WrongOutputShare j)
 
   abbrev pub products_right : Branch → (A B : View (List ℕ)) → Verdict
-  products_right e A B = first_at (wrong_product K e (next e) l.inputs l.gates A B) (λ w. fault_in (pick_byte e) Reason.WrongProduct w)
+  products_right e A B = first_at (wrong_product K e (next e) l.inputs l.gates A B) (λ w. fault_in e Reason.WrongProduct w)
 
   -- what is checked by running the two branches
   abbrev pub runs_hold : Branch → (A B : View (List ℕ)) → Verdict
@@ -49,8 +49,8 @@ module _ (K : Kind) (l : Circuit (List ℕ)) (fm : List ℕ) where
   -- what is checked of the two opened views
   abbrev pub opened_right : Sealing → Branch → (picked following : List ℕ) → Verdict
   opened_right S e p f =
-      check (seal_right S e p) (fault_in (pick_byte e) Reason.WrongSeal 0)
-      (check (seal_right S (next e) f) (fault_in (pick_byte (next e)) Reason.WrongSeal 0) (runs_hold e (view_of K l p).1 (view_of K l f).1))
+      check (seal_right S e p) (fault_in e Reason.WrongSeal 0)
+      (check (seal_right S (next e) f) (fault_in (next e) Reason.WrongSeal 0) (runs_hold e (view_of K l p).1 (view_of K l f).1))
 
   -- all elements of the messages are lawful
   pub record Formed (an : List ℕ) : Type 0 where

@@ -4,8 +4,7 @@ use Rattle.kinds.specs.Kind.{Kind}
 use Rattle.theory.specs.Algebra.{ops_of}
 use Rattle.theory.specs.Groups.{group}
 use Rattle.theory.specs.Runs.{next, View, read}
-use Rattle.theory.specs.declared.Branch.{Branch}
-use Rattle.branches.specs.Named.{the_branch}
+use Rattle.faults.specs.declared.Branch.{Branch}
 use Rattle.branches.specs.Views.{view_at, Opens}
 use Rattle.verifier.specs.declared.rerun.Pair.{Pair}
 
@@ -15,10 +14,10 @@ or_else None y = y
 
 -- the picked branch, and the one after it
 abbrev pub first_of : Pair → Branch
-first_of p = the_branch p.branch
+first_of p = p.branch
 
 abbrev pub second_of : Pair → Branch
-second_of p = next (the_branch p.branch)
+second_of p = next p.branch
 
 -- their views with `own` wires in the work space and q products behind
 abbrev pub first_view : Kind → Pair → (own : ℕ) (work : List ℕ) (q : ℕ) → View (List ℕ)

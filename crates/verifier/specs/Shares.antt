@@ -3,7 +3,7 @@ use Rattle.std.specs.Prelude.{ℕ, ◌≤◌, List, length}
 use Rattle.std.specs.List.{AllByRecursion}
 use Rattle.kinds.specs.Kind.{Kind, Lawful}
 use Rattle.kinds.specs.Groups.{group_length}
-use Rattle.theory.specs.declared.Branch.{Branch}
+use Rattle.faults.specs.declared.Branch.{Branch}
 use Rattle.theory.specs.Groups.{group}
 use Rattle.theory.specs.Extraction.{by_branch}
 use Rattle.verifier.specs.declared.outputs.Shares.{Shares}

@@ -6,10 +6,9 @@ ghost use Rattle.faults.specs.declared.Reason.{Reason};
 ghost use Rattle.kinds.specs.Kind.{Lawful};
 ghost use Rattle.locks.specs.Lengths.{view_length, first_length, answer_length, work_length};
 ghost use Rattle.theory.specs.Lawfulness.{ViewLawful};
-ghost use Rattle.theory.specs.Messages.{pick_byte, outs_in, view_of, picked_view, next_view};
-ghost use Rattle.theory.specs.declared.Branch.{Branch as AnyBranch};
+ghost use Rattle.theory.specs.Messages.{outs_in, view_of, picked_view, next_view};
+ghost use Rattle.faults.specs.declared.Branch.{Branch};
 ghost use Rattle.theory.specs.Tests.{both, first_at};
-ghost use Rattle.branches.specs.Named.{the_branch};
 ghost use Rattle.branches.specs.Walks.{circuit_of, Stands};
 ghost use Rattle.branches.specs.Wires.{wires_in};
 ghost use Rattle.verifier.specs.Checks.{targets_met, gives_shares, runs_hold, opened_right, Formed};
@@ -18,23 +17,18 @@ use crate::firsts::shares_of;
 use crate::outputs::{Shares, missed_target, wrong_share};
 use crate::sealed::is_sealed;
 use crate::views::rerun_views;
-use branches::branch::Branch;
 use branches::views::answer_views;
-use faults::{Fault, Reason};
+use faults::{Branch, Fault, Reason};
 use kinds::kind::ElementKind;
 use locks::lock::Lock;
 use seals::Sealer;
 
 // No fault, or that of the first wrong place in a branch.
 fn first_wrong(wrong: Option<usize>, branch: Branch, reason: Reason) -> Result<(), Fault>
-    ensures { result ≡ first_at wrong (λ i. fault_in (pick_byte (the_branch branch)) reason i) }
+    ensures { result ≡ first_at wrong (λ i. fault_in branch reason i) }
 {
     match wrong {
-        Some(place) => Err(Fault {
-            reason,
-            branch: branch.number(),
-            place,
-        }),
+        Some(place) => Err(Fault::in_branch(branch, reason, place)),
         None => Ok(()),
     }
 }
@@ -43,7 +37,7 @@ fn first_wrong(wrong: Option<usize>, branch: Branch, reason: Reason) -> Result<(
 fn targets_met<K: ElementKind, S: Sealer>(lock: Lock<'_>, first: &[u8]) -> Result<(), Fault>
     requires stands { Stands K.kind lock }
     requires sized { length first.now ≡ first_length K.kind lock.outputs S.sealing.size }
-    requires formed { (i : AnyBranch) → AllByRecursion (Lawful K.kind) (outs_in K.kind (circuit_of K.kind lock) first.now i) }
+    requires formed { (i : Branch) → AllByRecursion (Lawful K.kind) (outs_in K.kind (circuit_of K.kind lock) first.now i) }
     ensures { result ≡ targets_met K.kind (circuit_of K.kind lock.entry) first.now }
 {
     let shares = Shares {
@@ -66,10 +60,10 @@ fn gives_shares<K: ElementKind, S: Sealer>(
 ) -> Result<(), Fault>
     requires stands { Stands K.kind lock }
     requires sized { length first.now ≡ first_length K.kind lock.outputs S.sealing.size }
-    requires formed { AllByRecursion (Lawful K.kind) (outs_in K.kind (circuit_of K.kind lock) first.now (the_branch branch)) }
+    requires formed { AllByRecursion (Lawful K.kind) (outs_in K.kind (circuit_of K.kind lock) first.now branch) }
     requires room { work_length K.kind lock.inputs lock.gates ≤ length work.now }
     requires lawful { AllByRecursion (Lawful K.kind) (wires_in K.kind (lock.inputs + lock.gates) work.now) }
-    ensures { result ≡ gives_shares K.kind (circuit_of K.kind lock.entry) first.now (the_branch branch) (wires_in K.kind (lock.entry.inputs + lock.entry.gates) work.now) }
+    ensures { result ≡ gives_shares K.kind (circuit_of K.kind lock.entry) first.now branch (wires_in K.kind (lock.entry.inputs + lock.entry.gates) work.now) }
 {
     let wrong = wrong_share::<K>(lock, work, shares_of::<K, S>(lock, first, branch));
     first_wrong(wrong, branch, Reason::WrongOutputShare)
@@ -89,12 +83,12 @@ fn runs_hold<'a, K: ElementKind, S: Sealer>(
     requires firstsized { length first.now ≡ first_length K.kind lock.outputs S.sealing.size }
     requires sized { length picked.now ≡ view_length K.kind lock.inputs lock.products }
     requires nextsized { length following.now ≡ view_length K.kind lock.inputs lock.products }
-    requires outs { (i : AnyBranch) → AllByRecursion (Lawful K.kind) (outs_in K.kind (circuit_of K.kind lock) first.now i) }
+    requires outs { (i : Branch) → AllByRecursion (Lawful K.kind) (outs_in K.kind (circuit_of K.kind lock) first.now i) }
     requires formed { ViewLawful K.kind (view_of K.kind (circuit_of K.kind lock) picked.now).1 }
     requires nextformed { ViewLawful K.kind (view_of K.kind (circuit_of K.kind lock) following.now).1 }
     requires room { work_length K.kind lock.inputs lock.gates ≤ length work.old }
     requires nextroom { work_length K.kind lock.inputs lock.gates ≤ length next_work.old }
-    ensures { result ≡ runs_hold K.kind (circuit_of K.kind lock.entry) first.now (the_branch branch) (view_of K.kind (circuit_of K.kind lock.entry) picked.now).1 (view_of K.kind (circuit_of K.kind lock.entry) following.now).1 }
+    ensures { result ≡ runs_hold K.kind (circuit_of K.kind lock.entry) first.now branch (view_of K.kind (circuit_of K.kind lock.entry) picked.now).1 (view_of K.kind (circuit_of K.kind lock.entry) following.now).1 }
 {
     let wrong = rerun_views::<K>(lock, branch, picked, following, work, next_work);
     gives_shares::<K, S>(lock, first, branch, work)?;
@@ -118,12 +112,12 @@ fn opened_right<'a, K: ElementKind, S: Sealer>(
     requires firstsized { length first.now ≡ first_length K.kind lock.outputs S.sealing.size }
     requires sized { length picked.now ≡ view_length K.kind lock.inputs lock.products }
     requires nextsized { length following.now ≡ view_length K.kind lock.inputs lock.products }
-    requires outs { (i : AnyBranch) → AllByRecursion (Lawful K.kind) (outs_in K.kind (circuit_of K.kind lock) first.now i) }
+    requires outs { (i : Branch) → AllByRecursion (Lawful K.kind) (outs_in K.kind (circuit_of K.kind lock) first.now i) }
     requires formed { ViewLawful K.kind (view_of K.kind (circuit_of K.kind lock) picked.now).1 }
     requires nextformed { ViewLawful K.kind (view_of K.kind (circuit_of K.kind lock) following.now).1 }
     requires room { work_length K.kind lock.inputs lock.gates ≤ length work1.old }
     requires nextroom { work_length K.kind lock.inputs lock.gates ≤ length work2.old }
-    ensures { result ≡ opened_right K.kind (circuit_of K.kind lock.entry) first.now S.sealing (the_branch branch) picked.now following.now }
+    ensures { result ≡ opened_right K.kind (circuit_of K.kind lock.entry) first.now S.sealing branch picked.now following.now }
 {
     if !is_sealed::<K, S>(sealer, lock, first, branch, picked) {
         return first_wrong(Some(0), branch, Reason::WrongSeal);
@@ -152,7 +146,7 @@ fn answer_right<K: ElementKind, S: Sealer>(
     requires room { work_length K.kind lock.inputs lock.gates ≤ length work1.old }
     requires nextroom { work_length K.kind lock.inputs lock.gates ≤ length work2.old }
     requires formed { Formed K.kind (circuit_of K.kind lock) first.now answer.now }
-    ensures { result ≡ opened_right K.kind (circuit_of K.kind lock.entry) first.now S.sealing (the_branch branch) (picked_view K.kind (circuit_of K.kind lock.entry) answer.now) (next_view K.kind (circuit_of K.kind lock.entry) answer.now) }
+    ensures { result ≡ opened_right K.kind (circuit_of K.kind lock.entry) first.now S.sealing branch (picked_view K.kind (circuit_of K.kind lock.entry) answer.now) (next_view K.kind (circuit_of K.kind lock.entry) answer.now) }
 {
     let (picked, following) = answer_views::<K>(lock, answer);
     opened_right::<K, S>(sealer, lock, first, branch, picked, following, work1, work2)
@@ -175,7 +169,7 @@ pub(crate) fn figure_holds<K: ElementKind, S: Sealer>(
     requires room { work_length K.kind lock.inputs lock.gates ≤ length work1.old }
     requires nextroom { work_length K.kind lock.inputs lock.gates ≤ length work2.old }
     requires formed { Formed K.kind (circuit_of K.kind lock) first.now answer.now }
-    ensures { result ≡ both (targets_met K.kind (circuit_of K.kind lock.entry) first.now) (opened_right K.kind (circuit_of K.kind lock.entry) first.now S.sealing (the_branch branch) (picked_view K.kind (circuit_of K.kind lock.entry) answer.now) (next_view K.kind (circuit_of K.kind lock.entry) answer.now)) }
+    ensures { result ≡ both (targets_met K.kind (circuit_of K.kind lock.entry) first.now) (opened_right K.kind (circuit_of K.kind lock.entry) first.now S.sealing branch (picked_view K.kind (circuit_of K.kind lock.entry) answer.now) (next_view K.kind (circuit_of K.kind lock.entry) answer.now)) }
 {
     targets_met::<K, S>(lock, first)?;
     answer_right::<K, S>(sealer, lock, first, branch, answer, work1, work2)

@@ -6,14 +6,12 @@ ghost use Rattle.theory.specs.Messages.{outs_at, outs_in, view_of};
 ghost use Rattle.theory.specs.Tests.{lawful_at};
 ghost use Rattle.theory.specs.Verdict.{first_formed, view_formed, answer_formed};
 ghost use Rattle.faults.specs.declared.Reason.{Reason};
-ghost use Rattle.branches.specs.Named.{the_branch};
 ghost use Rattle.branches.specs.Walks.{circuit_of, Stands};
 
 use crate::firsts::{shares_at, shares_of};
-use branches::branch::Branch;
 use branches::groups::lawful_group;
 use branches::views::{BLIND_LENGTH, answer_views, view_parts, view_places};
-use faults::{Fault, Reason};
+use faults::{Branch, Fault, Reason};
 use kinds::kind::ElementKind;
 use locks::lock::Lock;
 use seals::Sealer;
@@ -33,7 +31,7 @@ fn shares_formed<K: ElementKind, S: Sealer>(
 ) -> Result<(), Fault>
     requires stands { Stands K.kind lock }
     requires sized { length first.now ≡ first_length K.kind lock.outputs S.sealing.size }
-    ensures { result ≡ lawful_at K.kind Reason.MalformedFirstMessage (outs_at K.kind (circuit_of K.kind lock.entry) (the_branch branch)) (outs_in K.kind (circuit_of K.kind lock.entry) first.now (the_branch branch)) }
+    ensures { result ≡ lawful_at K.kind Reason.MalformedFirstMessage (outs_at K.kind (circuit_of K.kind lock.entry) branch) (outs_in K.kind (circuit_of K.kind lock.entry) first.now branch) }
 {
     lawful_group::<K>(
         shares_of::<K, S>(lock, first, branch),
@@ -102,7 +100,7 @@ pub(crate) fn answer_formed<K: ElementKind, S: Sealer>(
 ) -> Result<(), Fault>
     requires stands { Stands K.kind lock }
     requires sized { length answer.now ≡ answer_length K.kind lock.inputs lock.products }
-    ensures { result ≡ answer_formed K.kind S.sealing (circuit_of K.kind lock.entry) (the_branch branch) answer.now }
+    ensures { result ≡ answer_formed K.kind S.sealing (circuit_of K.kind lock.entry) branch answer.now }
 {
     if !is_marked(answer, b"AN") {
         return Err(Fault::at(Reason::MalformedAnswer, 0));

@@ -2,13 +2,11 @@
 ghost use Rattle.std.specs.Prelude.{◌≡◌, ◌≤◌, length};
 ghost use Rattle.locks.specs.Lengths.{view_length, first_length, answer_length, work_length};
 ghost use Rattle.theory.specs.Verdict.{messages_right};
-ghost use Rattle.branches.specs.Named.{the_branch};
 ghost use Rattle.branches.specs.Walks.{circuit_of, Stands};
 
 use crate::figure::figure_holds;
 use crate::formed::{answer_formed, first_formed};
-use branches::branch::Branch;
-use faults::Fault;
+use faults::{Branch, Fault};
 use kinds::kind::ElementKind;
 use locks::lock::Lock;
 use seals::Sealer;
@@ -29,7 +27,7 @@ pub fn messages_right<K: ElementKind, S: Sealer>(
     requires answersized { length answer.now ≡ answer_length K.kind lock.inputs lock.products }
     requires room { work_length K.kind lock.inputs lock.gates ≤ length work1.old }
     requires nextroom { work_length K.kind lock.inputs lock.gates ≤ length work2.old }
-    ensures { result ≡ messages_right K.kind S.sealing (circuit_of K.kind lock.entry) first.now (the_branch branch) answer.now }
+    ensures { result ≡ messages_right K.kind S.sealing (circuit_of K.kind lock.entry) first.now branch answer.now }
 {
     first_formed::<K, S>(lock, first)?;
     answer_formed::<K, S>(lock, branch, answer)?;

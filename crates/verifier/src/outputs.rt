@@ -7,7 +7,7 @@ ghost use Rattle.locks.specs.Model.{output_of};
 ghost use Rattle.theory.specs.Algebra.{ops_of};
 ghost use Rattle.theory.specs.Groups.{group};
 ghost use Rattle.theory.specs.Runs.{read, at_outputs, targets, sum_of};
-ghost use Rattle.theory.specs.declared.Branch.TheVariants.{One as one, Two as two, Three as three};
+ghost use Rattle.faults.specs.declared.Branch.TheVariants.{One as one, Two as two, Three as three};
 ghost use Rattle.theory.specs.Tests.{unlike};
 ghost use Rattle.branches.specs.Walks.{circuit_of, Stands};
 ghost use Rattle.branches.specs.Wires.{wires_in};

@@ -14,11 +14,11 @@ ghost use Rattle.branches.specs.Walks.{circuit_of, Stands};
 ghost use Rattle.branches.specs.Wires.{wires_in};
 ghost use Rattle.verifier.specs.Pairs.{or_else, first_of, second_of, first_view, second_view, first_mask, second_mask, PairOpens};
 
-use branches::branch::Branch;
 use branches::gates::{branch_gate, products_of, right_product};
 use branches::groups::element;
 use branches::views::ViewParts;
 use branches::walk::next_gate;
+use faults::Branch;
 use kinds::kind::ElementKind;
 use locks::lock::Lock;
 use locks::records::GateRecord;

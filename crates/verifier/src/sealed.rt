@@ -2,13 +2,12 @@
 ghost use Rattle.std.specs.Prelude.{◌≡◌, ◌≤◌, length};
 ghost use Rattle.kinds.specs.Kind.{same_row};
 ghost use Rattle.locks.specs.Lengths.{first_length};
-ghost use Rattle.branches.specs.Named.{the_branch};
 ghost use Rattle.branches.specs.Walks.{circuit_of, Stands};
 ghost use Rattle.verifier.specs.Checks.{seal_right};
 
 use crate::firsts::seal_of;
-use branches::branch::Branch;
 use branches::bytes::same_bytes;
+use faults::Branch;
 use kinds::kind::ElementKind;
 use locks::lock::Lock;
 use seals::Sealer;
@@ -36,7 +35,7 @@ pub(crate) fn is_sealed<K: ElementKind, S: Sealer>(
     requires stands { Stands K.kind lock }
     requires sized { length first.now ≡ first_length K.kind lock.outputs S.sealing.size }
     requires short { length view.now ≤ S.sealing.longest }
-    ensures { result ≡ seal_right K.kind (circuit_of K.kind lock.entry) first.now S.sealing (the_branch branch) view.now }
+    ensures { result ≡ seal_right K.kind (circuit_of K.kind lock.entry) first.now S.sealing branch view.now }
 {
     let mut made = [0; MOST_SEAL];
     let size = S::seal_length();

@@ -5,10 +5,9 @@ ghost use Rattle.theory.specs.Verdict.{verified};
 
 use crate::messages::messages_right;
 use crate::sizes::sizes_right;
-use branches::branch::Branch;
 use branches::bytes::clear;
 use branches::walk::open_lock;
-use faults::Fault;
+use faults::{Branch, Fault};
 use kinds::kind::ElementKind;
 use seals::Sealer;
 
@@ -26,7 +25,7 @@ fn verdict<K: ElementKind, S: Sealer>(
 {
     let lock = open_lock::<K>(lock)?;
     sizes_right::<K, S>(lock, first.len(), answer.len(), work1.len(), work2.len())?;
-    let branch = Branch::picked(pick)?;
+    let branch = Branch::try_from(pick)?;
     messages_right::<K, S>(sealer, lock, first, branch, answer, work1, work2)
 }
 

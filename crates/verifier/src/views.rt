@@ -8,14 +8,13 @@ ghost use Rattle.theory.specs.Lawfulness.{ViewLawful};
 ghost use Rattle.theory.specs.Messages.{view_of};
 ghost use Rattle.theory.specs.Runs.{next, rerun};
 ghost use Rattle.theory.specs.Verdict.{wrong_product};
-ghost use Rattle.branches.specs.Named.{the_branch};
 ghost use Rattle.branches.specs.Walks.{circuit_of, Stands};
 ghost use Rattle.branches.specs.Wires.{wires_in};
 
 use crate::rerun::{Pair, rerun};
-use branches::branch::Branch;
 use branches::groups::wires_from_group;
 use branches::views::view_parts;
+use faults::Branch;
 use kinds::kind::ElementKind;
 use locks::lock::Lock;
 
@@ -35,9 +34,9 @@ pub(crate) fn rerun_views<'a, K: ElementKind>(
     requires nextformed { ViewLawful K.kind (view_of K.kind (circuit_of K.kind lock) following.now).1 }
     requires room { work_length K.kind lock.inputs lock.gates ≤ length work.old }
     requires nextroom { work_length K.kind lock.inputs lock.gates ≤ length next_work.old }
-    ensures wrong { result ≡ wrong_product K.kind (the_branch branch) (next (the_branch branch)) lock.entry.inputs (circuit_of K.kind lock.entry).gates (view_of K.kind (circuit_of K.kind lock.entry) picked.now).1 (view_of K.kind (circuit_of K.kind lock.entry) following.now).1 }
-    ensures first { wires_in K.kind (lock.entry.inputs + lock.entry.gates) work.new ≡ rerun (ops_of K.kind) (the_branch branch) (circuit_of K.kind lock.entry).gates (view_of K.kind (circuit_of K.kind lock.entry) picked.now).1 }
-    ensures second { wires_in K.kind (lock.entry.inputs + lock.entry.gates) next_work.new ≡ rerun (ops_of K.kind) (next (the_branch branch)) (circuit_of K.kind lock.entry).gates (view_of K.kind (circuit_of K.kind lock.entry) following.now).1 }
+    ensures wrong { result ≡ wrong_product K.kind branch (next branch) lock.entry.inputs (circuit_of K.kind lock.entry).gates (view_of K.kind (circuit_of K.kind lock.entry) picked.now).1 (view_of K.kind (circuit_of K.kind lock.entry) following.now).1 }
+    ensures first { wires_in K.kind (lock.entry.inputs + lock.entry.gates) work.new ≡ rerun (ops_of K.kind) branch (circuit_of K.kind lock.entry).gates (view_of K.kind (circuit_of K.kind lock.entry) picked.now).1 }
+    ensures second { wires_in K.kind (lock.entry.inputs + lock.entry.gates) next_work.new ≡ rerun (ops_of K.kind) (next branch) (circuit_of K.kind lock.entry).gates (view_of K.kind (circuit_of K.kind lock.entry) following.now).1 }
     ensures lawful { AllByRecursion (Lawful K.kind) (wires_in K.kind (lock.entry.inputs + lock.entry.gates) work.new) }
     ensures nextlawful { AllByRecursion (Lawful K.kind) (wires_in K.kind (lock.entry.inputs + lock.entry.gates) next_work.new) }
 {

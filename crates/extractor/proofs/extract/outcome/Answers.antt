@@ -1,6 +1,6 @@
-use Rattle.std.proofs.Common.{length, Ok, Err, sym, ap, ◌∙◌}
+use Rattle.std.proofs.Common.{length, Ok, Err, sym, ap, ◌∙◌, None}
 use Rattle.std.proofs.lemmas.Result.{err_from_is_err_and}
-use Rattle.theory.specs.declared.Branch.TheVariants.{One as one, Two as two, Three as three}
+use Rattle.faults.specs.declared.Branch.TheVariants.{One as one, Two as two, Three as three}
 use Rattle.theory.specs.declared.Extracted.{Extracted}
 use Rattle.theory.specs.Groups.{group_bytes}
 use Rattle.theory.specs.Extraction.{key_from}
@@ -13,8 +13,8 @@ pub accepted-requires : goal.accepted-requires
 accepted-requires g c =
     let k = g.K.ElementKind.kind in
     let r = ready k g.S.Sealer.sealing c.args.lock.now c.args.first.now c.args.answers (length c.args.work1.now) (length c.args.work2.now) c.args.key.now c.in_ok-lock.lock c.open_lock.result
-    c.open_lock.ensures.outcome c.open_lock.ensures.stands (at_ok 0 c.open_lock.result c.in_ok-lock.lock (sym c.at_pick.ensures ∙ c.in_ok-lock.was))
-    (sym c.sizes_right-sizes.ensures ∙ at_ok 0 c.sizes_right-sizes.result _ (sym c.at_pick-2.ensures ∙ c.in_ok-at_pick.was)) in
+    c.open_lock.ensures.outcome c.open_lock.ensures.stands (at_ok None c.open_lock.result c.in_ok-lock.lock (sym c.at_pick.ensures ∙ c.in_ok-lock.was))
+    (sym c.sizes_right-sizes.ensures ∙ at_ok None c.sizes_right-sizes.result _ (sym c.at_pick-2.ensures ∙ c.in_ok-at_pick.was)) in
     record { stands = r.stands; sealable = r.sealable; firstsized = r.first_sized; sized = r.sized; room = r.room; nextroom = r.next_room }
 
 pub returns-in_err-accepted : goal.returns-in_err-accepted
@@ -24,8 +24,8 @@ returns-in_err-accepted g c =
     let p = err_from_is_err_and c.from_residual-in_err-accepted.result c.from_residual-in_err-accepted.ensures.1 in
     let f = c.in_err-accepted.field-0.0 in
     let r = ready k s c.args.lock.now c.args.first.now c.args.answers (length c.args.work1.now) (length c.args.work2.now) c.args.key.now c.in_ok-lock.lock c.open_lock.result
-    c.open_lock.ensures.outcome c.open_lock.ensures.stands (at_ok 0 c.open_lock.result c.in_ok-lock.lock (sym c.at_pick.ensures ∙ c.in_ok-lock.was))
-    (sym c.sizes_right-sizes.ensures ∙ at_ok 0 c.sizes_right-sizes.result _ (sym c.at_pick-2.ensures ∙ c.in_ok-at_pick.was)) in
+    c.open_lock.ensures.outcome c.open_lock.ensures.stands (at_ok None c.open_lock.result c.in_ok-lock.lock (sym c.at_pick.ensures ∙ c.in_ok-lock.was))
+    (sym c.sizes_right-sizes.ensures ∙ at_ok None c.sizes_right-sizes.result _ (sym c.at_pick-2.ensures ∙ c.in_ok-at_pick.was)) in
     let e = answers_refused k s c.args.lock.now c.args.first.now (answers_of c.args.answers) (length c.args.work1.now) (length c.args.work2.now) c.args.key.now (circuit_of k c.in_ok-lock.lock) r.read f r.sizes
     (sym c.accepted.ensures ∙ c.in_err-accepted.was) in
     record { outcome = p.1 ∙ ap Err p.2 ∙ sym e; key = key_stays k s c.args.lock.now c.args.first.now (answers_of c.args.answers) (length c.args.work1.now) (length c.args.work2.now) c.args.key.now f e }
@@ -36,8 +36,8 @@ give-requires g c =
     let s = g.S.Sealer.sealing in
     let l = circuit_of k c.in_ok-lock.lock in
     let r = ready k s c.args.lock.now c.args.first.now c.args.answers (length c.args.work1.now) (length c.args.work2.now) c.args.key.now c.in_ok-lock.lock c.open_lock.result
-    c.open_lock.ensures.outcome c.open_lock.ensures.stands (at_ok 0 c.open_lock.result c.in_ok-lock.lock (sym c.at_pick.ensures ∙ c.in_ok-lock.was))
-    (sym c.sizes_right-sizes.ensures ∙ at_ok 0 c.sizes_right-sizes.result _ (sym c.at_pick-2.ensures ∙ c.in_ok-at_pick.was)) in
+    c.open_lock.ensures.outcome c.open_lock.ensures.stands (at_ok None c.open_lock.result c.in_ok-lock.lock (sym c.at_pick.ensures ∙ c.in_ok-lock.was))
+    (sym c.sizes_right-sizes.ensures ∙ at_ok None c.sizes_right-sizes.result _ (sym c.at_pick-2.ensures ∙ c.in_ok-at_pick.was)) in
     let a = each_right k s l c.args.first.now (answers_of c.args.answers) (sym c.accepted.ensures ∙ c.in_ok-accepted.was) in
     record {
       stands = r.stands;
@@ -56,8 +56,8 @@ returns g c =
     let s = g.S.Sealer.sealing in
     let l = circuit_of k c.in_ok-lock.lock in
     let r = ready k s c.args.lock.now c.args.first.now c.args.answers (length c.args.work1.now) (length c.args.work2.now) c.args.key.now c.in_ok-lock.lock c.open_lock.result
-    c.open_lock.ensures.outcome c.open_lock.ensures.stands (at_ok 0 c.open_lock.result c.in_ok-lock.lock (sym c.at_pick.ensures ∙ c.in_ok-lock.was))
-    (sym c.sizes_right-sizes.ensures ∙ at_ok 0 c.sizes_right-sizes.result _ (sym c.at_pick-2.ensures ∙ c.in_ok-at_pick.was)) in
+    c.open_lock.ensures.outcome c.open_lock.ensures.stands (at_ok None c.open_lock.result c.in_ok-lock.lock (sym c.at_pick.ensures ∙ c.in_ok-lock.was))
+    (sym c.sizes_right-sizes.ensures ∙ at_ok None c.sizes_right-sizes.result _ (sym c.at_pick-2.ensures ∙ c.in_ok-at_pick.was)) in
     let e = all_accepted k s c.args.lock.now c.args.first.now (answers_of c.args.answers) (length c.args.work1.now) (length c.args.work2.now) c.args.key.now l r.read r.sizes
     (sym c.accepted.ensures ∙ c.in_ok-accepted.was) in
     let given = key_given k s c.args.lock.now c.args.first.now (answers_of c.args.answers) (length c.args.work1.now) (length c.args.work2.now) c.args.key.now l r.read e in

@@ -4,7 +4,7 @@ use Rattle.locks.specs.Model.{gate_of}
 use Rattle.theory.specs.Algebra.{ops_of}
 use Rattle.theory.specs.Groups.{group}
 use Rattle.theory.specs.Runs.{right, local}
-use Rattle.theory.specs.declared.Branch.{Branch}
+use Rattle.faults.specs.declared.Branch.{Branch}
 use Rattle.branches.specs.Views.{taken}
 use Rattle.branches.specs.Wires.{wires_in}
 use Rattle.verifier.specs.Pairs.{first_of, second_of, first_mask, second_mask}

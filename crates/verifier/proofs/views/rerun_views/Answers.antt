@@ -3,7 +3,6 @@ use Rattle.theory.specs.Algebra.{ops_of}
 use Rattle.theory.specs.Messages.{view_of}
 use Rattle.theory.specs.Runs.{next, rerun}
 use Rattle.theory.specs.Verdict.{wrong_product}
-use Rattle.branches.specs.Named.{the_branch}
 use Rattle.branches.specs.Walks.{circuit_of}
 use Rattle.verifier.proofs.VerdictLemmas.{view_is}
 use Rattle.verifier.proofs.views.rerun_views.Goals as goal
@@ -13,7 +12,7 @@ returns g c =
     let kind = g.K.ElementKind.kind in
     let lock = c.args.lock in
     let l = circuit_of kind lock in
-    let e = the_branch c.args.branch in
+    let e = c.args.branch in
     let A = (view_of kind l c.args.picked.now).1 in
     let B = (view_of kind l c.args.following.now).1 in
     let a = view_is kind lock.inputs lock.products c.view_parts-view.result c.wires_from_group.new.work A c.view_parts-view.ensures.parts c.wires_from_group.ensures in
