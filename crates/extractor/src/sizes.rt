@@ -22,10 +22,10 @@ pub(crate) fn sizes_right<K: ElementKind, S: Sealer>(
 {
     let answer = lock.answer_length::<K>();
     let work = lock.work_length::<K>();
-    if lock.view_length::<K>() > S::longest_message() {
+    if lock.view_length::<K>() > S::LONGEST {
         return Err(Fault::at(Reason::WrongSize, 0));
     }
-    if first != lock.first_length::<K>(S::seal_length() as u8) {
+    if first != lock.first_length::<K>(S::LENGTH as u8) {
         return Err(Fault::at(Reason::WrongSize, 1));
     }
     if answer1 != answer {

@@ -46,7 +46,7 @@ pub(crate) fn seal_of<'a, K: ElementKind, S: Sealer>(
     ensures seal { result.now ≡ seal_in K.kind (circuit_of K.kind lock.entry) S.sealing.size first.now branch }
     ensures long { length result.now ≡ S.sealing.size }
 {
-    let size = S::seal_length();
+    let size = S::LENGTH;
     let start = 2 + 3 * group_length::<K>(lock.outputs as usize) + branch.before() * size;
     &first[start..start + size]
 }

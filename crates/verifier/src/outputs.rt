@@ -41,10 +41,10 @@ fn meets_target<K: ElementKind>(
     requires below { j < m }
     ensures { result ≡ same_row (K.kind.add (K.kind.add (read (ops_of K.kind) (shares_on K.kind m shares.entry one) j) (read (ops_of K.kind) (shares_on K.kind m shares.entry two) j)) (read (ops_of K.kind) (shares_on K.kind m shares.entry three) j)) (output_of output.entry).target }
 {
-    element::<K>(shares.one, m, j)
+    let sum = element::<K>(shares.one, m, j)
         .sum(element(shares.two, m, j))
-        .sum(element(shares.three, m, j))
-        .equals(lawful_row(output.target))
+        .sum(element(shares.three, m, j));
+    sum == lawful_row(output.target)
 }
 
 // The first output whose shares miss its target.
@@ -81,7 +81,7 @@ fn gives_share<K: ElementKind>(
     requires below { j < m }
     ensures { result ≡ same_row (read (ops_of K.kind) (wires_in K.kind wires work.now) (output_of output.entry).wire) (read (ops_of K.kind) (group K.kind m shares.now) j) }
 {
-    wire::<K>(work, wires, output.wire).equals(element(shares, m, j))
+    wire::<K>(work, wires, output.wire) == element(shares, m, j)
 }
 
 // The first output of which a branch does not give the share.

@@ -77,7 +77,7 @@ fn product_right<K: ElementKind>(
 {
     let mask: K = taken(gate, pair.view.masks, pair.count, q);
     let next_mask: K = taken(gate, pair.next_view.masks, pair.count, q);
-    product.equals(right_product(gate, own, work, next_work, mask, next_mask))
+    product == right_product(gate, own, work, next_work, mask, next_mask)
 }
 
 // One gate in both branches, with their products from the views: is the first one's product right?

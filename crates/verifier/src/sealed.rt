@@ -38,7 +38,7 @@ pub(crate) fn is_sealed<K: ElementKind, S: Sealer>(
     ensures { result ≡ seal_right K.kind (circuit_of K.kind lock.entry) first.now S.sealing branch view.now }
 {
     let mut made = [0; MOST_SEAL];
-    let size = S::seal_length();
+    let size = S::LENGTH;
     seals_as(
         sealer,
         view,

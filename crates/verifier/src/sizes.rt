@@ -17,10 +17,10 @@ pub(crate) fn sizes_right<K: ElementKind, S: Sealer>(
 ) -> Result<(), Fault>
     ensures { result ≡ sizes_by K.kind S.sealing (summary_of lock.entry) first answer work1 work2 }
 {
-    if lock.view_length::<K>() > S::longest_message() {
+    if lock.view_length::<K>() > S::LONGEST {
         return Err(Fault::at(Reason::WrongSize, 0));
     }
-    if first != lock.first_length::<K>(S::seal_length() as u8) {
+    if first != lock.first_length::<K>(S::LENGTH as u8) {
         return Err(Fault::at(Reason::WrongSize, 1));
     }
     if answer != lock.answer_length::<K>() {

@@ -1,4 +1,4 @@
-use Rattle.theory.specs.declared.Branch.TheVariants.{One as one, Two as two, Three as three}
+use Rattle.faults.specs.declared.Branch.TheVariants.{One as one, Two as two, Three as three}
 use Rattle.verifier.proofs.outputs.meets_target.Goals as goal
 
 pub element-requires : goal.element-requires

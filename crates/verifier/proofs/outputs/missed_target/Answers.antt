@@ -5,7 +5,7 @@ use Rattle.locks.specs.Locks.{Summary}
 use Rattle.locks.specs.Model.{standing, output_of}
 use Rattle.theory.specs.Algebra.{ops_of}
 use Rattle.theory.specs.Runs.{targets, sum_of}
-use Rattle.theory.specs.declared.Branch.{Branch}
+use Rattle.faults.specs.declared.Branch.{Branch}
 use Rattle.theory.proofs.Groups.{counted}
 use Rattle.branches.specs.Walks.{circuit_of}
 use Rattle.branches.proofs.Firsts.{like_here, unlike_found, unlike_end}
