@@ -1,5 +1,5 @@
 -- Verify, extract, promise, answer and drop are judged by their rules.
-use Rattle.std.proofs.Common.{◌≡◌, ℕ, suc, ◌+◌, ◌*◌, ◌<◌, ◌≤◌, Bool, true, eqb, ltb, leb, List, [], ◌∷◌, ◌++◌, length, get_or, Some, None, Ok, Err, Option, Result, sym, refl, ap, ◌∙◌, subst, ap₂, inl, inr, arith, ltb-true, ok_or}
+use Rattle.std.proofs.Common.{◌≡◌, ℕ, suc, ◌+◌, ◌*◌, ◌<◌, ◌≤◌, Bool, true, eqb, ltb, leb, List, [], ◌∷◌, ◌++◌, length, get_or, Some, None, Ok, Err, Option, Result, sym, refl, ap, ◌∙◌, subst, ap₂, inl, inr, ltb-true, ok_or}
 use lib.ListN.{length-map}
 use Rattle.std.proofs.lemmas.Bool.{eqb-true, eq-eqb, leb-true, le-leb, lt-ltb}
 use Rattle.faults.specs.declared.Fault.{Fault}
@@ -22,18 +22,16 @@ use Rattle.theory.specs.Verdict.{picked, wrong_product, verify_sizes, first_form
 use Rattle.theory.specs.Extraction.{extract_then, extract_sizes, compared}
 use Rattle.theory.specs.Keeper.{Keeper, Given, promise_sizes, key_right, tape_right, promise_result, state_of, open_by}
 use Rattle.theory.specs.Rules.{Rule, Judged, must, all_equal, product_wires, IsPick, verify_size_rules, group_rule, view_rules, message_rules, extract_size_rules, beside_pick, promise_rules, RulesLaw}
-use Rattle.theory.proofs.Basics.{not_some, inside}
 use Rattle.theory.proofs.Checked.{same_bytes, wire_of, wrong_is}
-use Rattle.theory.proofs.Lists.{suc≢zero, suc_same}
 use Rattle.theory.proofs.Groups.{counted}
 use Rattle.theory.proofs.Parts.{view_for}
 use Rattle.theory.proofs.Verdicts.{picked_byte, pick_branch}
-use Rattle.theory.proofs.Judging.{nothing_asked, tested, joined, beside_joined, elements, equals, ok_err, err_then_ok, err_same}
+use Rattle.theory.proofs.Judging.{nothing_asked, tested, joined, beside_joined, elements, equals}
 
 length_sum : {E : Type 0} (O : Ops E) (u w : List E) → length u ≡ length w → length (sum O u w) ≡ length u
 length_sum O [] w h = refl
-length_sum O (x ∷ u) [] h = suc≢zero h
-length_sum O (x ∷ u) (y ∷ w) h = ap suc (length_sum O u w (suc_same h))
+length_sum O (x ∷ u) [] h = cc
+length_sum O (x ∷ u) (y ∷ w) h = ap suc (length_sum O u w cc)
 
 length_due : (K : Kind) (i n : Branch) (gs : List (Gate (List ℕ))) (A B : View (List ℕ)) → length (due (ops_of K) i n gs A B) ≡ mus gs
 length_due K i n [] A B = refl
@@ -64,9 +62,9 @@ by_test b f rs a v j = tested (b ≡ true) b f (λ h. h) (λ h. h) rs a v j
 -- a rule that is broken for certain
 never : {A : Type 0} (P : Type 0) (f : Fault) (a : A) → (P → ⊥) → Judged (must P f ∷ []) a (Err f)
 never P f a wrong = record {
-  accepts = λ h. err_then_ok h;
+  accepts = λ h. cc;
   accepted = λ k. absurd (wrong k.0);
-  refuses = λ g h. inl (wrong, sym (err_same h));
+  refuses = λ g h. inl (wrong, cc);
   refused = λ g h. elim h [ inl x ↦ ap Err (sym x.1) | inr x ↦ absurd x.1 ];
 }
 
@@ -165,35 +163,35 @@ promise_judged k g l reads =
 by_state : (r : ℕ) (o : Option RoundState)
     → Judged (must (o ≡ None → ⊥) (fault Reason.UnknownRound r) ∷ must (o ≡ Some RoundState.Promised) (fault Reason.SpentRound r) ∷ []) tt (open_by r o)
 by_state r None = record {
-  accepts = λ h. err_then_ok h;
+  accepts = λ h. cc;
   accepted = λ k. absurd (k.0 refl);
-  refuses = λ f h. inl ((λ p. p refl), sym (err_same h));
+  refuses = λ f h. inl ((λ p. p refl), cc);
   refused = λ f h. elim h [ inl x ↦ ap Err (sym x.1) | inr x ↦ absurd (x.0 refl) ];
 }
 by_state r (Some RoundState.Promised) = record {
-  accepts = λ h. ((λ e. not_some (sym e)), (refl, tt));
+  accepts = λ h. ((λ e. cc), (refl, tt));
   accepted = λ k. refl;
-  refuses = λ f h. ok_err h;
-  refused = λ f h. elim h [ inl x ↦ absurd (x.0 (λ e. not_some (sym e))) | inr x ↦ elim x.1 [ inl y ↦ absurd (y.0 refl) | inr y ↦ absurd y.1 ] ];
+  refuses = λ f h. cc;
+  refused = λ f h. elim h [ inl x ↦ absurd (x.0 (λ e. cc)) | inr x ↦ elim x.1 [ inl y ↦ absurd (y.0 refl) | inr y ↦ absurd y.1 ] ];
 }
 by_state r (Some RoundState.Answered) = record {
-  accepts = λ h. err_then_ok h;
-  accepted = λ k. let z : ◌≡◌ {A = RoundState} RoundState.Answered RoundState.Promised = inside k.1.0 in other z;
-  refuses = λ f h. inr ((λ e. not_some (sym e)), inl ((λ e. other (inside e)), sym (err_same h)));
-  refused = λ f h. elim h [ inl x ↦ absurd (x.0 (λ e. not_some (sym e))) | inr x ↦ elim x.1 [ inl y ↦ ap Err (sym y.1) | inr y ↦ absurd y.1 ] ];
+  accepts = λ h. cc;
+  accepted = λ k. let z : ◌≡◌ {A = RoundState} RoundState.Answered RoundState.Promised = cc in other z;
+  refuses = λ f h. inr ((λ e. cc), inl ((λ e. other cc), cc));
+  refused = λ f h. elim h [ inl x ↦ absurd (x.0 (λ e. cc)) | inr x ↦ elim x.1 [ inl y ↦ ap Err (sym y.1) | inr y ↦ absurd y.1 ] ];
 }
   where
     other : {X : Type 0} → RoundState.Answered ≡ RoundState.Promised → X
-    other h = let z : ◌≡◌ {A = ℕ} 0 1 = cc in absurd (omega arith)
+    other h = cc
 by_state r (Some RoundState.Dropped) = record {
-  accepts = λ h. err_then_ok h;
-  accepted = λ k. let z : ◌≡◌ {A = RoundState} RoundState.Dropped RoundState.Promised = inside k.1.0 in other z;
-  refuses = λ f h. inr ((λ e. not_some (sym e)), inl ((λ e. other (inside e)), sym (err_same h)));
-  refused = λ f h. elim h [ inl x ↦ absurd (x.0 (λ e. not_some (sym e))) | inr x ↦ elim x.1 [ inl y ↦ ap Err (sym y.1) | inr y ↦ absurd y.1 ] ];
+  accepts = λ h. cc;
+  accepted = λ k. let z : ◌≡◌ {A = RoundState} RoundState.Dropped RoundState.Promised = cc in other z;
+  refuses = λ f h. inr ((λ e. cc), inl ((λ e. other cc), cc));
+  refused = λ f h. elim h [ inl x ↦ absurd (x.0 (λ e. cc)) | inr x ↦ elim x.1 [ inl y ↦ ap Err (sym y.1) | inr y ↦ absurd y.1 ] ];
 }
   where
     other : {X : Type 0} → RoundState.Dropped ≡ RoundState.Promised → X
-    other h = let z : ◌≡◌ {A = ℕ} 0 1 = cc in absurd (omega arith)
+    other h = cc
 
 pub rules_law : RulesLaw
 rules_law = record {

@@ -11,22 +11,11 @@ use Rattle.theory.specs.declared.Extracted.{Extracted}
 use Rattle.theory.specs.declared.PickFault.{PickFault}
 use Rattle.theory.specs.Extraction.{beside, extract_then}
 use Rattle.theory.specs.Rules.{Rule, AllKept, FirstBroken, Judged, must, all_lawful, all_equal, DifferFirst, beside_pick}
-use Rattle.theory.proofs.Basics.{clash, not_some}
 use Rattle.theory.proofs.Checked as checked
 use Rattle.theory.proofs.Checked.{lawful_all, unlike_same, same_unlike, same_bytes}
-use Rattle.theory.proofs.Lists.{zero≢suc, suc≢zero, suc_same}
-
-pub err_same : {A F : Type 0} {f g : F} → ◌≡◌ {A = Result A F} (Err f) (Err g) → f ≡ g
-err_same h = cc
-
-pub ok_err : {A F X : Type 0} {a : A} {f : F} → ◌≡◌ {A = Result A F} (Ok a) (Err f) → X
-ok_err h = let z : ◌≡◌ {A = ℕ} 0 1 = cc in absurd (omega arith)
-
-pub err_then_ok : {A F X : Type 0} {a : A} {f : F} → ◌≡◌ {A = Result A F} (Err f) (Ok a) → X
-err_then_ok h = let z : ◌≡◌ {A = ℕ} 0 1 = cc in absurd (omega arith)
 
 pub nothing_asked : {A F : Type 0} (a : A) → Judged {F = F} [] a (Ok a)
-nothing_asked a = record { accepts = λ _. tt; accepted = λ _. refl; refuses = λ f h. ok_err h; refused = λ f h. absurd h }
+nothing_asked a = record { accepts = λ _. tt; accepted = λ _. refl; refuses = λ f h. cc; refused = λ f h. absurd h }
 
 -- a plain condition, tested
 pub tested : {A : Type 0} (P : Type 0) (b : Bool) (f : Fault) → (b ≡ true → P) → (P → b ≡ true) → (rs : List (Rule Fault)) (a : A) (v : Result A Fault) → Judged rs a v → Judged (must P f ∷ rs) a (check b f v)
@@ -37,10 +26,10 @@ tested P true f to from rs a v j = record {
   refused = λ g h. elim h [ inl x ↦ absurd (x.0 (to refl)) | inr x ↦ j.refused g x.1 ];
 }
 tested P false f to from rs a v j = record {
-  accepts = λ h. err_then_ok h;
-  accepted = λ k. clash (from k.0) refl;
-  refuses = λ g h. inl ((λ p. clash (from p) refl), sym (err_same h));
-  refused = λ g h. elim h [ inl x ↦ ap Err (sym x.1) | inr x ↦ clash (from x.0) refl ];
+  accepts = λ h. cc;
+  accepted = λ k. cc (from k.0);
+  refuses = λ g h. inl ((λ p. (cc (from p))), cc);
+  refused = λ g h. elim h [ inl x ↦ ap Err (sym x.1) | inr x ↦ (cc (from x.0)) ];
 }
 
 -- one test after another
@@ -76,13 +65,13 @@ in_turn rs ss (Ok u) a w j k = record {
   accepts = λ h. both_kept ss rs (j.accepts refl) (k.accepts h);
   accepted = λ h. k.accepted (each_kept ss rs h).1;
   refuses = λ f h. to_right ss rs f (j.accepts refl) (k.refuses f h);
-  refused = λ f h. elim (either ss rs f h) [ inl x ↦ ok_err (j.refused f x) | inr x ↦ k.refused f x.1 ];
+  refused = λ f h. elim (either ss rs f h) [ inl x ↦ (cc (j.refused f x)) | inr x ↦ k.refused f x.1 ];
 }
 in_turn rs ss (Err g) a w j k = record {
-  accepts = λ h. err_then_ok h;
-  accepted = λ h. err_then_ok (j.accepted (each_kept ss rs h).0);
-  refuses = λ f h. to_left ss rs f (j.refuses f (ap Err (err_same h)));
-  refused = λ f h. elim (either ss rs f h) [ inl x ↦ ap Err (err_same (j.refused f x)) | inr x ↦ err_then_ok (j.accepted x.0) ];
+  accepts = λ h. cc;
+  accepted = λ h. cc (j.accepted (each_kept ss rs h).0);
+  refuses = λ f h. to_left ss rs f (j.refuses f cc);
+  refused = λ f h. elim (either ss rs f h) [ inl x ↦ ap Err (cc (j.refused f x)) | inr x ↦ (cc (j.accepted x.0)) ];
 }
 
 then_seq : {A : Type 0} (v : Verdict) (w : Result A Fault) → seq v w ≡ and_then v (λ _. w)
@@ -119,14 +108,14 @@ tagged_judged : (e : Option Branch) (rs : List (Rule Fault)) (v : Verdict) → J
 tagged_judged e rs (Ok u) j = record {
   accepts = λ h. kept_beside e rs (j.accepts refl);
   accepted = λ h. refl;
-  refuses = λ x h. ok_err h;
-  refused = λ x h. ok_err (j.refused (beside_broken e rs x h).0 (beside_broken e rs x h).1);
+  refuses = λ x h. cc;
+  refused = λ x h. cc (j.refused (beside_broken e rs x h).0 (beside_broken e rs x h).1);
 }
 tagged_judged e rs (Err g) j = record {
-  accepts = λ h. err_then_ok h;
-  accepted = λ h. err_then_ok (j.accepted (beside_kept e rs h));
-  refuses = λ x h. subst (FirstBroken (beside_pick e rs)) (err_same h) (broken_beside e rs g (j.refuses g refl));
-  refused = λ x h. let q = beside_broken e rs x h in ap (λ f. Err (beside e f)) (err_same (j.refused q.0 q.1)) ∙ ap Err (sym q.2);
+  accepts = λ h. cc;
+  accepted = λ h. cc (j.accepted (beside_kept e rs h));
+  refuses = λ x h. subst (FirstBroken (beside_pick e rs)) (cc) (broken_beside e rs g (j.refuses g refl));
+  refused = λ x h. let q = beside_broken e rs x h in ap (λ f. Err (beside e f)) (cc (j.refused q.0 q.1)) ∙ ap Err (sym q.2);
 }
 
 tag_seq : (e : Option Branch) (v : Verdict) (w : Result Extracted PickFault) → seq (tagged e v) w ≡ extract_then e v (λ _. w)
@@ -143,15 +132,15 @@ pub firsts : (P : Type 0) (B : ℕ → Type 0) (at : ℕ → Fault) (o : Option 
 firsts P B at None to from first back = record {
   accepts = λ _. (to refl, tt);
   accepted = λ _. refl;
-  refuses = λ f h. ok_err h;
-  refused = λ f h. elim h [ inl x ↦ not_some (back x.0 x.1) | inr x ↦ absurd x.1 ];
+  refuses = λ f h. cc;
+  refused = λ f h. elim h [ inl x ↦ (cc (back x.0 x.1)) | inr x ↦ absurd x.1 ];
 }
 firsts P B at (Some j) to from first back = record {
-  accepts = λ h. err_then_ok h;
-  accepted = λ k. not_some (sym (from k.0));
-  refuses = λ f h. inl (j, first j refl, sym (err_same h));
+  accepts = λ h. cc;
+  accepted = λ k. cc (sym (from k.0));
+  refuses = λ f h. inl (j, first j refl, cc);
   refused = λ f h. elim h [
-    | inl x ↦ (let same : j ≡ x.0 = Rattle.theory.proofs.Basics.inside (back x.0 x.1) in ap (λ i. Err (at i)) same ∙ ap Err (sym x.2))
+    | inl x ↦ (let same : j ≡ x.0 = cc (back x.0 x.1) in ap (λ i. Err (at i)) same ∙ ap Err (sym x.2))
     | inr x ↦ absurd x.1
   ];
 }
@@ -162,18 +151,18 @@ UnlawfulAt K es i = (i < length es) × AllByRecursion (Lawful K) (take i es) × 
 
 unlawful_first : (K : Kind) (es : List (List ℕ)) (i : ℕ) → unlawful K es ≡ Some i → UnlawfulAt K es i
 unfolding UnlawfulAt
-unlawful_first K [] i h = not_some h
+unlawful_first K [] i h = cc
 unlawful_first K (e ∷ es) i h = go (unlawful_first K es) (K.lawful e) refl (unlawful K es) refl h
   where
     go : ((j : ℕ) → unlawful K es ≡ Some j → UnlawfulAt K es j) → (b : Bool) → K.lawful e ≡ b → (o : Option ℕ) → unlawful K es ≡ o → cond b (later o) (Some 0) ≡ Some i → UnlawfulAt K (e ∷ es) i
-    go ih true l None eo k = not_some k
+    go ih true l None eo k = cc
     go ih true l (Some j) eo k =
         let r = ih j eo in
         let at : suc j ≡ i = cc in
         subst (UnlawfulAt K (e ∷ es)) at (omega (arith, r.0), (l, r.1), r.2)
     go ih false l o eo k =
         let at : 0 ≡ i = cc in
-        subst (UnlawfulAt K (e ∷ es)) at (omega arith, tt, λ x. clash x l)
+        subst (UnlawfulAt K (e ∷ es)) at (omega arith, tt, λ x. cc)
 
 first_unlawful : (K : Kind) (es : List (List ℕ)) (i : ℕ) → UnlawfulAt K es i → unlawful K es ≡ Some i
 unfolding UnlawfulAt
@@ -199,24 +188,24 @@ elements K at es =
 
 -- rows that differ
 unlike_first : (xs ys : List (List ℕ)) (i : ℕ) → length xs ≡ length ys → unlike xs ys ≡ Some i → DifferFirst xs ys i
-unlike_first [] [] i l h = not_some h
-unlike_first [] (y ∷ ys) i l h = zero≢suc l
-unlike_first (x ∷ xs) [] i l h = suc≢zero l
-unlike_first (x ∷ xs) (y ∷ ys) i l h = go (λ j. unlike_first xs ys j (suc_same l)) (same_row x y) refl (unlike xs ys) refl h
+unlike_first [] [] i l h = cc
+unlike_first [] (y ∷ ys) i l h = cc
+unlike_first (x ∷ xs) [] i l h = cc
+unlike_first (x ∷ xs) (y ∷ ys) i l h = go (λ j. unlike_first xs ys j cc) (same_row x y) refl (unlike xs ys) refl h
   where
     go : ((j : ℕ) → unlike xs ys ≡ Some j → DifferFirst xs ys j) → (b : Bool) → same_row x y ≡ b → (o : Option ℕ) → unlike xs ys ≡ o → cond b (later o) (Some 0) ≡ Some i → DifferFirst (x ∷ xs) (y ∷ ys) i
-    go ih true e None eo k = not_some k
+    go ih true e None eo k = cc
     go ih true e (Some j) eo k =
         let r = ih j eo in
         let at : suc j ≡ i = cc in
         subst (DifferFirst (x ∷ xs) (y ∷ ys)) at (omega (arith, r.0), ap₂ {C = List (List ℕ)} (λ z zs. z ∷ zs) (same_true x y e) r.1, r.2)
     go ih false e o eo k =
         let at : 0 ≡ i = cc in
-        subst (DifferFirst (x ∷ xs) (y ∷ ys)) at (omega arith, refl, λ same. clash (same_bytes same) e)
+        subst (DifferFirst (x ∷ xs) (y ∷ ys)) at (omega arith, refl, λ same. (cc (same_bytes same)))
 
 first_unlike : (xs ys : List (List ℕ)) (i : ℕ) → length xs ≡ length ys → DifferFirst xs ys i → unlike xs ys ≡ Some i
 first_unlike [] ys i l h = absurd (omega (arith, h.0))
-first_unlike (x ∷ xs) [] i l h = suc≢zero l
+first_unlike (x ∷ xs) [] i l h = cc
 first_unlike (x ∷ xs) (y ∷ ys) zero l h = go (same_row x y) refl
   where
     go : (b : Bool) → same_row x y ≡ b → cond b (later (unlike xs ys)) (Some 0) ≡ Some 0
@@ -226,7 +215,7 @@ first_unlike (x ∷ xs) (y ∷ ys) (suc i) l h =
     let front : x ∷ take i xs ≡ y ∷ take i ys = h.1 in
     let head : x ≡ y = cc in
     let tail : take i xs ≡ take i ys = cc in
-    ap₂ (λ b o. cond b (later o) (Some 0)) (same_bytes head) (first_unlike xs ys i (suc_same l) (omega (arith, h.0), tail, h.2))
+    ap₂ (λ b o. cond b (later o) (Some 0)) (same_bytes head) (first_unlike xs ys i (cc) (omega (arith, h.0), tail, h.2))
 
 pub equals : (at : ℕ → Fault) (xs ys : List (List ℕ)) → length xs ≡ length ys → Judged (all_equal at xs ys ∷ []) tt (first_at (unlike xs ys) at)
 equals at xs ys l = firsts (xs ≡ ys) (DifferFirst xs ys) at (unlike xs ys) (unlike_same xs ys) same_unlike (λ i. unlike_first xs ys i l) (λ i. first_unlike xs ys i l)

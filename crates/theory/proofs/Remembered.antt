@@ -1,5 +1,5 @@
 -- The keeper remembers what its accepted promises gave.
-use Rattle.std.proofs.Common.{◌≡◌, ℕ, suc, ◌+◌, ◌*◌, Bool, true, false, cond, eqb, ltb, List, [], ◌∷◌, length, replicate, Some, None, Ok, Err, Option, Result, sym, refl, ap, ◌∙◌, arith, ok_or}
+use Rattle.std.proofs.Common.{◌≡◌, ℕ, suc, ◌+◌, ◌*◌, Bool, true, false, cond, eqb, ltb, List, [], ◌∷◌, length, replicate, Some, None, Ok, Err, Option, Result, sym, refl, ap, ◌∙◌, ok_or}
 use lib.ListN.{length-replicate}
 use Rattle.faults.specs.declared.Fault.{Fault}
 use Rattle.faults.specs.declared.Reason.{Reason}
@@ -64,24 +64,24 @@ any [] = false
 any (x ∷ es) = true
 
 answer_any : (k : Keeper) (q : ℕ) (B : Result Branch Fault) (s : Shown) → answer_from k q B ≡ told s → (es : List End) → any (left B (λ b. opened b ∷ es) es) ≡ pasts.ends s (any es)
-answer_any k q (Ok b) (refused f) h es = let z : ◌≡◌ {A = ℕ} 0 1 = cc in absurd (omega arith)
-answer_any k q (Ok b) (promised r m) h es = let z : ◌≡◌ {A = ℕ} 0 1 = cc in absurd (omega arith)
+answer_any k q (Ok b) (refused f) h es = cc
+answer_any k q (Ok b) (promised r m) h es = cc
 answer_any k q (Ok b) (answered c x y) h es = refl
 answer_any k q (Ok b) dropped h es = refl
 answer_any k q (Err f) (refused e) h es = refl
 answer_any k q (Err f) (promised r m) h es = refl
-answer_any k q (Err f) (answered c x y) h es = let z : ◌≡◌ {A = ℕ} 0 1 = cc in absurd (omega arith)
-answer_any k q (Err f) dropped h es = let z : ◌≡◌ {A = ℕ} 0 1 = cc in absurd (omega arith)
+answer_any k q (Err f) (answered c x y) h es = cc
+answer_any k q (Err f) dropped h es = cc
 
 drop_any : (R : Verdict) (s : Shown) → drop_told R ≡ told s → (es : List End) → any (left R (λ _. let_go ∷ es) es) ≡ pasts.ends s (any es)
-drop_any (Ok u) (refused f) h es = let z : ◌≡◌ {A = ℕ} 0 1 = cc in absurd (omega arith)
-drop_any (Ok u) (promised r m) h es = let z : ◌≡◌ {A = ℕ} 0 1 = cc in absurd (omega arith)
+drop_any (Ok u) (refused f) h es = cc
+drop_any (Ok u) (promised r m) h es = cc
 drop_any (Ok u) (answered c x y) h es = refl
 drop_any (Ok u) dropped h es = refl
 drop_any (Err f) (refused e) h es = refl
 drop_any (Err f) (promised r m) h es = refl
-drop_any (Err f) (answered c x y) h es = let z : ◌≡◌ {A = ℕ} 0 1 = cc in absurd (omega arith)
-drop_any (Err f) dropped h es = let z : ◌≡◌ {A = ℕ} 0 1 = cc in absurd (omega arith)
+drop_any (Err f) (answered c x y) h es = cc
+drop_any (Err f) dropped h es = cc
 
 any_cond : (x : Bool) (es fs : List End) (b : Bool) → any es ≡ b → any (cond x es fs) ≡ cond x b (any fs)
 any_cond true es fs b h = h

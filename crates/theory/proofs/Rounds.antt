@@ -10,7 +10,7 @@ use Rattle.theory.proofs.Claims.{SameBut, Alike, Complete, Hides}
 use Rattle.theory.proofs.Closing.{closing, length_masks_for, length_products_for, closing_own, closing_before, only_masks}
 use Rattle.theory.proofs.Group.{v, ◌⊞◌, solve}
 use Rattle.theory.proofs.Honest.{same_rerun, length_honest, honest_right, only_honest, Enough}
-use Rattle.theory.proofs.Lists.{length_sum, length_less, shown_sum, three_shares, last_same, zero≢suc, suc≢zero, suc_same}
+use Rattle.theory.proofs.Lists.{length_sum, length_less, shown_sum, three_shares, last_same}
 use Rattle.theory.proofs.Sums.{Right, Even, sums}
 
 -- x at e, y at the branch after, z at the one after that
@@ -89,11 +89,11 @@ module _ {E : Type 0} {O : Ops E} (L : Rules O) where
   -- a sum of three may begin at any of them
   turn : (a b c : List E) → length a ≡ length b → length a ≡ length c → sum O (sum O a b) c ≡ sum O (sum O b c) a
   turn [] [] c h k = refl
-  turn [] (y ∷ b) c h k = zero≢suc h
-  turn (x ∷ a) [] c h k = suc≢zero h
-  turn (x ∷ a) (y ∷ b) [] h k = suc≢zero k
+  turn [] (y ∷ b) c h k = cc
+  turn (x ∷ a) [] c h k = cc
+  turn (x ∷ a) (y ∷ b) [] h k = cc
   turn (x ∷ a) (y ∷ b) (z ∷ c) h k =
-      ap₂ {C = List E} (λ t ts. t ∷ ts) (solve L (x ∷ y ∷ z ∷ []) ((v 0 ⊞ v 1) ⊞ v 2) ((v 1 ⊞ v 2) ⊞ v 0) refl) (turn a b c (suc_same h) (suc_same k))
+      ap₂ {C = List E} (λ t ts. t ∷ ts) (solve L (x ∷ y ∷ z ∷ []) ((v 0 ⊞ v 1) ⊞ v 2) ((v 1 ⊞ v 2) ⊞ v 0) refl) (turn a b c (cc) cc)
 
   turned : (n : ℕ) (f : Branch → List E) → ((i : Branch) → length (f i) ≡ n) → (e : Branch) → sum_of O f ≡ sum O (sum O (f e) (f (next e))) (f (next (next e)))
   turned n f h one = refl

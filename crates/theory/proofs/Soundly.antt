@@ -5,7 +5,6 @@ use Rattle.std.specs.List.{AllByRecursion}
 use Rattle.faults.specs.declared.Reason.{Reason}
 use Rattle.faults.specs.Numbers.{fault}
 use Rattle.faults.specs.Outcomes.{check}
-use Rattle.faults.proofs.Passed.{ok_same}
 use Rattle.kinds.specs.Kind.{Kind, Laws, Lawful}
 use Rattle.locks.specs.Circuit.{Circuit}
 use Rattle.locks.specs.Reading.{lock_of}
@@ -45,7 +44,7 @@ module _ (K : Kind) (laws : Laws K) (S : Sealing) (lock fm : List ℕ) (an : Bra
   each e =
       let a = accepted K S lock fm (pick_byte e) (an e) (w1 e) (w2 e) (all e) in
       let pick : a.0 ≡ e = sym (same_pick e a.0 a.1) in
-      let lock-is : a.2.0 ≡ l = ok_same (sym a.2.1.reads ∙ reads) in
+      let lock-is : a.2.0 ≡ l = cc (sym a.2.1.reads ∙ reads) in
       subst (λ x. Accepted K S lock fm e (an e) (w1 e) (w2 e) x) lock-is (subst (λ x. Accepted K S lock fm x (an e) (w1 e) (w2 e) a.2.0) pick a.2.1)
 
   fine : (e : Branch) → messages_right K S l fm e (an e) ≡ Ok tt

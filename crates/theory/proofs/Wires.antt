@@ -11,7 +11,7 @@ use Rattle.theory.specs.Branches.{Tape, masks_on, shares_of, TapeFor}
 use Rattle.theory.specs.Keeper.{circuit_in, key_in, tape_in}
 use Rattle.theory.specs.Rules.{product_wires}
 use Rattle.theory.specs.Figures.{ValuesHold, GatesHold, Decomposed, FigureLaw}
-use Rattle.theory.proofs.Lists.{length_snoc, suc≢zero, suc_same}
+use Rattle.theory.proofs.Lists.{length_snoc}
 use Rattle.theory.proofs.Groups.{counted}
 use Rattle.theory.proofs.Parts.{tape_for}
 
@@ -116,8 +116,8 @@ module _ {E : Type 0} (O : Ops E) where
 
   length_less : (u w : List E) → length u ≡ length w → length (less O u w) ≡ length u
   length_less [] w h = refl
-  length_less (x ∷ u) [] h = suc≢zero h
-  length_less (x ∷ u) (y ∷ w) h = ap suc (length_less u w (suc_same h))
+  length_less (x ∷ u) [] h = cc
+  length_less (x ∷ u) (y ∷ w) h = ap suc (length_less u w cc)
 
   shares_long : (l : Circuit E) (key : List E) (t : Tape E) → length key ≡ l.inputs → TapeFor l t → (i : Branch) → length (shares_of O key t i) ≡ l.inputs
   shares_long l key t k f one = f.size1

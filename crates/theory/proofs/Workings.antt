@@ -24,7 +24,6 @@ use Rattle.theory.specs.History.{call_promise, Told, told_fault, told_round, tol
 use Rattle.theory.specs.Completeness.{Honest}
 use Rattle.theory.specs.Hiding.{Outside}
 use Rattle.theory.specs.Worked.{rows, worked_lock, worked_circuit, with_key, keeper, promised, forged_view, forged_outs, forged_first, forged_answer, WorkedBy, Worked}
-use Rattle.theory.proofs.Basics.{not_some, inside}
 use Rattle.theory.proofs.Checked.{same_bytes}
 use Rattle.theory.proofs.Parts.{seals_read, first_length}
 use Rattle.theory.proofs.Verdicts.{size_fine, accepts}
@@ -44,14 +43,14 @@ check_true : {A : Type 0} (b : Bool) (f : Fault) (X : Result A Fault) → b ≡ 
 check_true b f X h = ap (λ c. check c f X) h
 
 noted_is : (t : Told) (g h : Given) (r : ℕ) → noted t g r None ≡ Some h → g ≡ h
-noted_is (told_fault f) g h r e = not_some e
+noted_is (told_fault f) g h r e = cc
 noted_is (told_round q x) g h r e = go (eqb r q) e
   where
     go : (b : Bool) → mathlib.Core.Bool.cond b (Some g) None ≡ Some h → g ≡ h
-    go true k = inside k
-    go false k = not_some k
-noted_is (told_answer x) g h r e = not_some e
-noted_is told_drop g h r e = not_some e
+    go true k = cc
+    go false k = cc
+noted_is (told_answer x) g h r e = cc
+noted_is told_drop g h r e = cc
 
 word_laws : Laws word_kind
 word_laws = modular_laws 2 4294967296 (omega arith) (omega arith)
