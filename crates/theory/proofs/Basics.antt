@@ -1,10 +1,6 @@
 -- Small facts on tests, options and lists.
-use Rattle.std.proofs.Common.{◌≡◌, ℕ, Bool, true, false, cond, T, ◌⊎◌, List, [], ◌∷◌, ◌++◌, length, refl, ap₂, inl, inr}
+use Rattle.std.proofs.Common.{◌≡◌, ℕ, Bool, true, false, cond, ◌⊎◌, List, [], ◌∷◌, ◌++◌, length, refl, ap₂, inl, inr}
 use Rattle.std.specs.List.{AllByRecursion}
-
-pub T_true : (b : Bool) → T b → b ≡ true
-T_true true h = refl
-T_true false h = absurd h
 
 -- a test and what it told
 pub split : (b : Bool) → (b ≡ true) ⊎ (b ≡ false)

@@ -1,7 +1,6 @@
 -- Tests in order, and what each tells.
 use Rattle.std.proofs.Common.{◌≡◌, ℕ, suc, Bool, true, false, cond, eqb, List, [], ◌∷◌, length, get_or, Some, None, Ok, Err, Option, Result, sym, refl, ap, ◌∙◌, subst, ap₂, arith}
-use lib.Dec.{eqb_refl}
-use Rattle.std.proofs.lemmas.Bool.{eqb-true, eqb-false}
+use Rattle.std.proofs.lemmas.Bool.{eqb-true, eqb-false, eq-eqb}
 use Rattle.std.specs.List.{AllByRecursion}
 use Rattle.faults.specs.declared.Fault.{Fault}
 use Rattle.faults.specs.declared.Reason.{Reason}
@@ -15,7 +14,6 @@ use Rattle.theory.specs.Tests.{Verdict, both, first_at, later, unlawful, lawful_
 use Rattle.theory.specs.Verdict.{wrong_product}
 use Rattle.theory.specs.Soundness.{FirstUnlike}
 use Rattle.theory.specs.Rules.{product_wires}
-use Rattle.theory.proofs.Basics.{T_true}
 
 pub both_ok : (a b : Verdict) → both a b ≡ Ok tt → (a ≡ Ok tt) × (b ≡ Ok tt)
 both_ok (Ok x) b h = (refl, h)
@@ -69,7 +67,7 @@ differ_same (x ∷ xs) (y ∷ ys) h = go (differ_same xs ys) (eqb x y) refl h
 
 differ_refl : (xs : List ℕ) → differ xs xs ≡ None
 differ_refl [] = refl
-differ_refl (x ∷ xs) = ap₂ (λ b o. cond b (later o) (Some 0)) (T_true _ (eqb_refl x)) (differ_refl xs)
+differ_refl (x ∷ xs) = ap₂ (λ b o. cond b (later o) (Some 0)) (eq-eqb x x refl) (differ_refl xs)
 
 pub same_differ : {xs ys : List ℕ} → xs ≡ ys → differ xs ys ≡ None
 same_differ {xs} {ys} h = subst (λ z. differ xs z ≡ None) h (differ_refl xs)

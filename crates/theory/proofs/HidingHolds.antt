@@ -2,8 +2,7 @@
 use Rattle.std.proofs.Common.{◌≡◌, ℕ, zero, suc, ◌+◌, ◌*◌, ◌<◌, ◌≤◌, Bool, true, false, cond, eqb, List, [], ◌∷◌, ◌++◌, map, length, take, drop as skip, Some, None, Ok, Option, sym, refl, ap, ◌∙◌, subst, ap₂, subst₂, arith}
 use mathlib.Core.Path.{fun_ext}
 use lib.ListN.{length-map}
-use lib.Dec.{eqb_refl}
-use Rattle.std.proofs.lemmas.Bool.{eqb-true}
+use Rattle.std.proofs.lemmas.Bool.{eqb-true, eq-eqb}
 use Rattle.std.specs.List.{AllByRecursion}
 use Rattle.kinds.specs.Kind.{Kind, Lawful, Laws, Bytes}
 use Rattle.locks.specs.Circuit.{Circuit, mus}
@@ -20,7 +19,7 @@ use Rattle.theory.specs.Soundness.{KeyFits}
 use Rattle.theory.specs.Store.{rounds_in}
 use Rattle.theory.proofs.Asked.{sizes_fine, read_sizes, blind_32, tests, views, views_long, all_told_is, of_made, to_made, each_parsed, all_stand, long_fit, tells_is}
 use Rattle.theory.proofs.Asks.{given_tests, parse, parse_call, checks, told, parsed, noted, history, outcome, made, Made, other_call, replayed, picks, closed_in, first_of}
-use Rattle.theory.proofs.Basics.{T_true, append_inj}
+use Rattle.theory.proofs.Basics.{append_inj}
 use Rattle.theory.proofs.Checked.{both_ok}
 use Rattle.theory.proofs.Claims.{SameBut}
 use Rattle.theory.proofs.Groups.{all_append}
@@ -80,7 +79,7 @@ module _ (long : ℕ) (store : List ℕ) where
       → made long store (call_promise g ∷ H) (suc (length (history long store H).made)) ≡ Some g
   made_here g H m e =
       let R = suc (length (history long store H).made) in
-      ap (λ s. noted s g R (made long store H R)) e ∙ ap (λ b. cond b (Some g) (made long store H R)) (T_true _ (eqb_refl R))
+      ap (λ s. noted s g R (made long store H R)) e ∙ ap (λ b. cond b (Some g) (made long store H R)) (eq-eqb R R refl)
 
   made_later : (c : Call) (H : List Call) (r : ℕ) (g : Given) → made long store H r ≡ Some g → made long store (c ∷ H) r ≡ Some g
   made_later (call_promise x) H r g h = go (promise_view (checks long) n size (λ _. []) (λ _. blank) (history long store H) (parse x))

@@ -1,6 +1,6 @@
 -- A history and its recast: the same calls are accepted, and the same is shown.
 use Rattle.std.proofs.Common.{◌≡◌, ℕ, suc, ◌≤◌, Bool, true, false, cond, eqb, ltb, ◌⊎◌, List, [], ◌∷◌, length, Some, None, Ok, Err, Option, sym, refl, ap, ◌∙◌, subst, ap₂, inl, inr, arith, eqb-true}
-use lib.Dec.{eqb_refl}
+use Rattle.std.proofs.lemmas.Bool.{eq-eqb}
 use Rattle.std.specs.List.{AllByRecursion}
 use Rattle.faults.specs.declared.Fault.{Fault}
 use Rattle.kinds.specs.Kind.{Lawful, Laws}
@@ -10,7 +10,7 @@ use Rattle.theory.specs.Lawfulness.{CircuitLawful, TapeLawful, ViewLawful}
 use Rattle.theory.specs.Messages.{view_bytes, branch_of}
 use Rattle.theory.specs.Runs.{Branch, one, next, Fits}
 use Rattle.theory.specs.Tests.{Verdict}
-use Rattle.theory.proofs.Basics.{T_true, either_way}
+use Rattle.theory.proofs.Basics.{either_way}
 use Rattle.theory.proofs.Claims.{SameBut, Alike}
 use Rattle.theory.proofs.Lifted.{complete_on, hides_on}
 use Rattle.theory.proofs.Parts.{same_views}
@@ -18,7 +18,7 @@ use Rattle.theory.proofs.Pasts.{Promise, Checks, Move, promise, answer, drop, Me
 use Rattle.theory.proofs.Rounds.{not_closed}
 
 pub round_here : (p : Promise) (ps : List Promise) → round (p ∷ ps) (suc (length ps)) ≡ Some p
-round_here p ps = ap (λ b. cond b (Some p) (round ps (suc (length ps)))) (T_true _ (eqb_refl (suc (length ps))))
+round_here p ps = ap (λ b. cond b (Some p) (round ps (suc (length ps)))) (eq-eqb (suc (length ps)) _ refl)
 
 -- the round is the latest, or an earlier one
 pub round_cases : (p : Promise) (ps : List Promise) (r : ℕ) (q : Promise) → round (p ∷ ps) r ≡ Some q → ((r ≡ suc (length ps)) × (p ≡ q)) ⊎ (round ps r ≡ Some q)
@@ -274,7 +274,7 @@ module _ (ck : Checks) (n size : ℕ) where
     -- the answer just accepted is the only one
     opened_now : (h : List Move) (r e z : ℕ) (b : Branch) (x y : List ℕ) → S (Pa h) (answer r e z) ≡ answered b x y → (Pa h).gone r ≡ false → (Pa (answer r e z ∷ h)).opened r ≡ b ∷ []
     opened_now h r e z b x y k free =
-        ap (λ t. cond t (opens (S (Pa h) (answer r e z)) ((Pa h).opened r)) ((Pa h).opened r)) (T_true _ (eqb_refl r))
+        ap (λ t. cond t (opens (S (Pa h) (answer r e z)) ((Pa h).opened r)) ((Pa h).opened r)) (eq-eqb r r refl)
         ∙ ap (λ s. opens s ((Pa h).opened r)) k
         ∙ ap {B = List Branch} (λ bs. b ∷ bs) (none_yet ((Pa h).opened r) refl)
       where

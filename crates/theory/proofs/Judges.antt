@@ -12,7 +12,7 @@ use Rattle.locks.specs.Circuit.{Gate, ac, mc, ad, mu, Circuit, mus}
 use Rattle.locks.specs.Reading.{lock_of}
 use Rattle.seals.specs.Sealing.{Sealing}
 use Rattle.theory.specs.declared.RoundState.{RoundState}
-use Rattle.theory.specs.Algebra.{Ops, ops_of}
+use Rattle.theory.specs.Algebra.{ops_of}
 use Rattle.theory.specs.Runs.{Branch, one, two, three, next, View, sum, sum_of, at_outputs, targets, step, due}
 use Rattle.theory.specs.Branches.{Tape}
 use Rattle.theory.specs.Groups.{element_at}
@@ -24,14 +24,10 @@ use Rattle.theory.specs.Keeper.{Keeper, Given, promise_sizes, key_right, tape_ri
 use Rattle.theory.specs.Rules.{Rule, Judged, must, all_equal, product_wires, IsPick, verify_size_rules, group_rule, view_rules, message_rules, extract_size_rules, beside_pick, promise_rules, RulesLaw}
 use Rattle.theory.proofs.Checked.{same_bytes, wire_of, wrong_is}
 use Rattle.theory.proofs.Groups.{counted}
+use Rattle.theory.proofs.Lists.{length_sum}
 use Rattle.theory.proofs.Parts.{view_for}
 use Rattle.theory.proofs.Verdicts.{picked_byte, pick_branch}
 use Rattle.theory.proofs.Judging.{nothing_asked, tested, joined, beside_joined, elements, equals}
-
-length_sum : {E : Type 0} (O : Ops E) (u w : List E) → length u ≡ length w → length (sum O u w) ≡ length u
-length_sum O [] w h = refl
-length_sum O (x ∷ u) [] h = cc
-length_sum O (x ∷ u) (y ∷ w) h = ap suc (length_sum O u w cc)
 
 length_due : (K : Kind) (i n : Branch) (gs : List (Gate (List ℕ))) (A B : View (List ℕ)) → length (due (ops_of K) i n gs A B) ≡ mus gs
 length_due K i n [] A B = refl

@@ -1,8 +1,9 @@
 -- Sums of lists, element by element.
 use Rattle.std.proofs.Common.{◌≡◌, ℕ, zero, suc, List, [], ◌∷◌, ◌++◌, length, sym, refl, ap, ◌∙◌, ap₂}
-use Rattle.locks.specs.Circuit.{Output}
+use Rattle.locks.specs.Circuit.{Output, Circuit}
 use Rattle.theory.specs.Algebra.{Ops, Rules}
-use Rattle.theory.specs.Runs.{read, sum, less, at_outputs}
+use Rattle.theory.specs.Branches.{Tape, TapeFor, shares_of}
+use Rattle.theory.specs.Runs.{Branch, one, two, three, read, sum, less, at_outputs}
 use Rattle.theory.proofs.Group.{v, ◌⊞◌, ⊟◌, solve, cancel_l}
 
 pub suc≢zero : {n : ℕ} {A : Type 0} → suc n ≡ zero → A
@@ -18,19 +19,29 @@ length_snoc (y ∷ xs) x = ap suc (length_snoc xs x)
 pub same_snoc : {A B : Type 0} (xs : List A) (ys : List B) (x : A) (y : B) → length xs ≡ length ys → length (xs ++ (x ∷ [])) ≡ length (ys ++ (y ∷ []))
 same_snoc xs ys x y h = length_snoc xs x ∙ ap suc h ∙ sym (length_snoc ys y)
 
-module _ {E : Type 0} {O : Ops E} (L : Rules O) where
-  open O use {zer, add, neg, mul}
-  open L use {assoc, comm, unit, inverse}
-
+module _ {E : Type 0} (O : Ops E) where
   pub length_sum : (u w : List E) → length u ≡ length w → length (sum O u w) ≡ length u
   length_sum [] w h = refl
   length_sum (x ∷ u) [] h = cc
   length_sum (x ∷ u) (y ∷ w) h = ap suc (length_sum u w cc)
 
-  pub length_less : (u w : List E) → length u ≡ length w → length (less O u w) ≡ length u
+  length_less : (u w : List E) → length u ≡ length w → length (less O u w) ≡ length u
   length_less [] w h = refl
   length_less (x ∷ u) [] h = cc
   length_less (x ∷ u) (y ∷ w) h = ap suc (length_less u w cc)
+
+  -- two shares off a key
+  pub length_last : (key s1 s2 : List E) → length key ≡ length s1 → length key ≡ length s2 → length (less O (less O key s1) s2) ≡ length key
+  length_last key s1 s2 h k = length_less (less O key s1) s2 (length_less key s1 h ∙ k) ∙ length_less key s1 h
+
+  pub shares_long : (l : Circuit E) (key : List E) (t : Tape E) → length key ≡ l.inputs → TapeFor l t → (i : Branch) → length (shares_of O key t i) ≡ l.inputs
+  shares_long l key t k f one = f.size1
+  shares_long l key t k f two = f.size2
+  shares_long l key t k f three = length_last key t.share1 t.share2 (k ∙ sym f.size1) (k ∙ sym f.size2) ∙ k
+
+module _ {E : Type 0} {O : Ops E} (L : Rules O) where
+  open O use {zer, add, neg, mul}
+  open L use {assoc, comm, unit, inverse}
 
   pub sum_snoc : (u w : List E) (x y : E) → length u ≡ length w → sum O (u ++ (x ∷ [])) (w ++ (y ∷ [])) ≡ sum O u w ++ (add x y ∷ [])
   sum_snoc [] [] x y h = refl

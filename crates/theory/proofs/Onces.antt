@@ -1,6 +1,6 @@
 -- A round ends once: by the table alone, whatever kinds and sealers are given.
 use Rattle.std.proofs.Common.{◌≡◌, ℕ, zero, suc, ◌≤◌, Bool, true, false, cond, eqb, ltb, ◌⊎◌, List, [], ◌∷◌, ◌++◌, length, Some, None, Ok, Err, Option, Result, sym, refl, ap, ◌∙◌, inl, inr, arith, eqb-true}
-use lib.Dec.{eqb_refl}
+use Rattle.std.proofs.lemmas.Bool.{eq-eqb}
 use Rattle.faults.specs.declared.Fault.{Fault}
 use Rattle.faults.specs.declared.Reason.{Reason}
 use Rattle.faults.specs.Numbers.{fault}
@@ -13,7 +13,6 @@ use Rattle.theory.specs.Runs.{Branch}
 use Rattle.theory.specs.Tests.{left}
 use Rattle.theory.specs.Keeper.{Keeper, made_from, Given, own_view_bytes, promise_sizes, key_right, tape_right, own_first, promise_result, kept, after_promise, state_of, with_state, open_by, answer_branch, ended, drop_result}
 use Rattle.theory.specs.History.{Call, call_promise, call_answer, call_drop, promise_told, run, End, opened, let_go, noted, made, ends}
-use Rattle.theory.proofs.Basics.{T_true}
 use Rattle.theory.proofs.Lists.{length_snoc}
 use Rattle.theory.proofs.Stored.{is_spent, spent_of}
 use Rattle.theory.proofs.Stores.{fate, spent_if, fate_marked}
@@ -119,7 +118,7 @@ other_end k r q s sp (Err f) e = refl
 own_end : (k : Keeper) (r : ℕ) (s : RoundState) → is_spent s ≡ true → fate k.table r ≡ Some false → fate (with_state k.table r s) r ≡ Some true
 unfolding spent_if
 own_end k r s sp h =
-    fate_marked k.table r s sp r ∙ ap (λ b. cond b (spent_if (fate k.table r)) (fate k.table r)) (T_true _ (eqb_refl r)) ∙ ap spent_if h
+    fate_marked k.table r s sp r ∙ ap (λ b. cond b (spent_if (fate k.table r)) (fate k.table r)) (eq-eqb r r refl) ∙ ap spent_if h
 
 end_step : {A : Type 0} (k : Keeper) (r q : ℕ) (s : RoundState) → is_spent s ≡ true → (R : Result A Fault) → ((a : A) → R ≡ Ok a → fate k.table q ≡ Some false)
     → (E : A → End) (es : List End) → Ended es (fate k.table r)
