@@ -7,6 +7,7 @@ pub mod group;
 pub mod groups;
 pub mod lock;
 pub mod rows;
+pub mod view;
 pub mod views;
 pub mod walk;
 pub mod wires;

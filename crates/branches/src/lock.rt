@@ -3,8 +3,8 @@ ghost use Rattle.std.specs.Prelude.{◌≡◌, ◌+◌, ◌≤◌, length};
 ghost use Rattle.std.specs.List.{AllByRecursion};
 ghost use Rattle.locks.specs.Circuit.{mus};
 ghost use Rattle.locks.specs.Encoding.{GatesFor, OutputFor};
-ghost use Rattle.locks.specs.Lengths.{key_length, view_length, tape_length, first_length, answer_length, work_length};
 ghost use Rattle.locks.specs.Reading.{lock_of};
+ghost use Rattle.theory.specs.Messages.{length_of_key, length_of_view, length_of_tape, length_of_first, length_of_answer, length_of_work};
 ghost use Rattle.branches.specs.Walks.{circuit_of, Stands};
 
 use crate::walk::{next_gate, next_output, open_lock, outputs_reader};
@@ -77,6 +77,7 @@ impl<'a, K: ElementKind> OpenLock<'a, K> {
     pub fn input_count(&self) -> usize
         ensures count { result ≡ self.now.inputs }
         ensures few { result ≤ 1024 }
+        ensures short { length_of_view K.kind self.now ≤ 65535 }
     {
         self.lock.inputs as usize
     }
@@ -96,7 +97,8 @@ impl<'a, K: ElementKind> OpenLock<'a, K> {
     }
 
     pub fn product_count(&self) -> usize
-        ensures { result ≡ mus self.now.gates }
+        ensures count { result ≡ mus self.now.gates }
+        ensures short { length_of_view K.kind self.now ≤ 65535 }
     {
         self.lock.products as usize
     }
@@ -105,39 +107,39 @@ impl<'a, K: ElementKind> OpenLock<'a, K> {
 // The lengths of what belongs to the lock.
 impl<K: ElementKind> OpenLock<'_, K> {
     pub fn key_length(&self) -> usize
-        ensures { result ≡ key_length K.kind self.now.inputs }
+        ensures { result ≡ length_of_key K.kind self.now }
     {
         self.lock.key_length::<K>()
     }
 
     pub fn view_length(&self) -> usize
-        ensures length { result ≡ view_length K.kind self.now.inputs (mus self.now.gates) }
+        ensures length { result ≡ length_of_view K.kind self.now }
         ensures short { result ≤ 65535 }
     {
         self.lock.view_length::<K>()
     }
 
     pub fn tape_length(&self) -> usize
-        ensures { result ≡ tape_length K.kind self.now.inputs (mus self.now.gates) }
+        ensures { result ≡ length_of_tape K.kind self.now }
     {
         self.lock.tape_length::<K>()
     }
 
     // With seals of `seal` bytes.
     pub fn first_length(&self, seal: u8) -> usize
-        ensures { result ≡ first_length K.kind (length self.now.outputs) seal }
+        ensures { result ≡ length_of_first K.kind self.now seal }
     {
         self.lock.first_length::<K>(seal)
     }
 
     pub fn answer_length(&self) -> usize
-        ensures { result ≡ answer_length K.kind self.now.inputs (mus self.now.gates) }
+        ensures { result ≡ length_of_answer K.kind self.now }
     {
         self.lock.answer_length::<K>()
     }
 
     pub fn work_length(&self) -> usize
-        ensures { result ≡ work_length K.kind self.now.inputs (length self.now.gates) }
+        ensures { result ≡ length_of_work K.kind self.now }
     {
         self.lock.work_length::<K>()
     }
