@@ -6,6 +6,7 @@ use faults::Fault;
 
 pub mod laws;
 pub mod promises;
+mod records;
 
 // What three accepted answers give: a key, or a branch whose two views differ first at an offset.
 #[derive(Clone, Copy, PartialEq, Eq, Debug)]
@@ -21,10 +22,15 @@ pub struct PickFault {
     pub fault: Fault,
 }
 
-// What a keeper remembers of a round.
-#[derive(Clone, Copy, PartialEq, Eq, Debug)]
+// What a keeper remembers of a round, with the number by which it is told outside.
+#[derive(Clone, Copy, PartialEq, Eq, Debug, Default)]
 pub enum RoundState {
-    Promised,
-    Answered,
-    Dropped,
+    #[default]
+    Promised = 0,
+    Answered = 1,
+    Dropped = 2,
 }
+
+// A number that no record has.
+#[derive(Clone, Copy, PartialEq, Eq, Debug)]
+pub struct UnknownRecord;
