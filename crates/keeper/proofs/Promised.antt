@@ -1,5 +1,5 @@
 -- A promise that passed its tests, and one whose lock was read.
-use Rattle.std.proofs.Common.{◌≡◌, ℕ, suc, ◌-◌, ◌≤◌, Bool, true, false, eqb, ltb, leb, List, [], ◌∷◌, ◌++◌, length, take, set, Ok, Err, Result, sym, refl, ap, ◌∙◌, arith}
+use Rattle.std.proofs.Common.{◌≡◌, ℕ, suc, ◌≤◌, Bool, true, false, eqb, ltb, leb, List, [], ◌∷◌, ◌++◌, length, Ok, Err, Result, sym, refl, ap, ◌∙◌, arith}
 use Rattle.faults.specs.declared.Fault.{Fault}
 use Rattle.faults.specs.declared.Reason.{Reason}
 use Rattle.faults.specs.Numbers.{fault}
@@ -21,19 +21,18 @@ use Rattle.keeper.specs.Model.{values_of, Placed}
 use Rattle.keeper.specs.Promise.{size_right, tested, secrets_right, promised_for, promised_to, lengths_of, views_for, round_for, first_for, Ready}
 use Rattle.keeper.specs.declared.Keeper.{Keeper}
 use Rattle.keeper.proofs.Rooms.{placed_in}
-use Rattle.keeper.proofs.Tables.{one_more}
-use Rattle.keeper.proofs.Tested.{Passing, passing, table_long}
+use Rattle.keeper.proofs.Tested.{Passing, passing}
 
 module _ (k : Keeper) (K : Kind) (S : Sealing) (lock : Lock) (key tape : List ℕ) (w1 w2 w3 first r : ℕ) (stands : Stands K lock)
     (h : promised_to (values_of k) K S lock key tape w1 w2 w3 first ≡ Ok r) where
   all_passed : Passing (values_of k) K S lock.inputs lock.gates lock.outputs lock.products (lengths_of (length key) (length tape) w1 w2 w3 first) (secrets_right K (circuit_of K lock) key tape) r
   all_passed = passing (values_of k) K S lock.inputs lock.gates lock.outputs lock.products (lengths_of (length key) (length tape) w1 w2 w3 first) (secrets_right K (circuit_of K lock) key tape) r h
 
-  pub round_number : r ≡ suc k.promised
-  round_number = sym all_passed.number ∙ ap suc (table_long k)
+  pub round_number : r ≡ suc (length k.records.items)
+  round_number = sym all_passed.number
 
   pub round_within : r ≤ k.capacity
-  round_within = omega (arith, all_passed.free, table_long k, round_number)
+  round_within = omega (arith, all_passed.free, round_number)
 
   pub round_placed : Placed k.view_length r (length k.store.now)
   round_placed = placed_in k.capacity k.view_length r (length k.store.now) (k.short (omega (arith, round_within, round_number))) (omega (arith, round_number)) round_within k.few k.room
@@ -41,14 +40,9 @@ module _ (k : Keeper) (K : Kind) (S : Sealing) (lock : Lock) (key tape : List �
   pub round_ready : Ready K S lock k.view_length key tape w1 w2 w3 first
   round_ready = record { stands = stands; sized = all_passed.sized; long = all_passed.long; right = all_passed.right }
 
-  pub kept_is : (store : List ℕ) (records : List RoundState) → store ≡ put k.store.now (round_at k.view_length r) (round_for K (circuit_of K lock) key tape) → records ≡ set k.rounds.records (r - 1) RoundState.Promised
-      → record { view_size = k.view_length; capacity = k.capacity; store = store; table = take r records } ≡ kept (values_of k) r (views_for K (circuit_of K lock) key tape)
-  kept_is store records e t =
-      let p : r - 1 ≡ k.promised = omega (arith, round_number) in
-      let more : take r records ≡ take k.promised k.rounds.records ++ (RoundState.Promised ∷ []) =
-      (λ i. take (round_number i) (t i)) ∙ ap (λ (n : ℕ). take (suc k.promised) (set k.rounds.records n RoundState.Promised)) p
-      ∙ one_more k.rounds.records k.promised RoundState.Promised (omega (arith, k.rounds.all, round_within, round_number, k.few)) in
-      λ i. record { view_size = k.view_length; capacity = k.capacity; store = e i; table = more i }
+  pub kept_is : (store : List ℕ) (records : List RoundState) → store ≡ put k.store.now (round_at k.view_length r) (round_for K (circuit_of K lock) key tape) → records ≡ k.records.items ++ (RoundState.Promised ∷ [])
+      → record { view_size = k.view_length; capacity = k.capacity; store = store; table = records } ≡ kept (values_of k) r (views_for K (circuit_of K lock) key tape)
+  kept_is store records e t = λ i. record { view_size = k.view_length; capacity = k.capacity; store = e i; table = t i }
 
 -- the tests, one behind the other, are those of the definition
 one_size : (b : Bool) (p : ℕ) (r : Verdict) → both (size_right b p) r ≡ check b (fault Reason.WrongSize p) r

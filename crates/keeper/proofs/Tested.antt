@@ -1,5 +1,5 @@
 -- The tests of a promise: what they tell where they pass.
-use Rattle.std.proofs.Common.{◌≡◌, ℕ, suc, ◌<◌, ◌≤◌, Bool, true, eqb, ltb, List, length, take, Ok, Err, Result, sym, refl, ◌∙◌, arith, length-take-le, ltb-true, eq-eqb, eqb-true, leb-true}
+use Rattle.std.proofs.Common.{◌≡◌, ℕ, suc, ◌<◌, ◌≤◌, Bool, true, eqb, ltb, List, length, Ok, Err, Result, sym, refl, ◌∙◌, ltb-true, eq-eqb, eqb-true, leb-true}
 use Rattle.std.specs.List.{AllByRecursion}
 use Rattle.faults.specs.declared.Fault.{Fault}
 use Rattle.faults.specs.declared.Reason.{Reason}
@@ -17,7 +17,6 @@ use Rattle.promises.proofs.Walks.{tested_lawful}
 use Rattle.locks.specs.declared.lock.Lock.{Lock}
 use Rattle.branches.specs.Walks.{circuit_of}
 use Rattle.theory.specs.Keeper.{key_right, tape_right, Keeper as Values}
-use Rattle.keeper.specs.declared.Keeper.{Keeper}
 use Rattle.theory.specs.Messages.{key_of, tape_of}
 use Rattle.promises.proofs.Told.{lock_counts, cut_right}
 use Rattle.keeper.specs.Promise.{size_right, sizes_right, Ready, lengths_of, next_round, tested}
@@ -129,7 +128,3 @@ passing keeper K S k g m M n secrets r h =
       number = ok_same d.1 ∙ ok_same e.2;
       right = e.1;
     }
-
--- as many records as rounds promised
-pub table_long : (k : Keeper) → length (take k.promised k.rounds.records) ≡ k.promised
-table_long k = length-take-le k.promised k.rounds.records (omega (arith, k.within, k.few, k.rounds.all))

@@ -10,7 +10,7 @@ use Rattle.keeper.specs.declared.Keeper.{Keeper}
 
 -- its table has the records of the rounds promised so far
 abbrev pub values_of : Keeper → Values
-values_of k = record { view_size = k.view_length; capacity = k.capacity; store = k.store.now; table = take k.promised k.rounds.records }
+values_of k = record { view_size = k.view_length; capacity = k.capacity; store = k.store.now; table = k.records.items }
 
 -- a keeper of views of L bytes over a store whose rounds have these records
 abbrev pub resumed_from : (L : ℕ) (table : List RoundState) (store : List ℕ) → Values

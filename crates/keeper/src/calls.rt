@@ -1,10 +1,11 @@
 // The keeper's calls: each only tests, takes itself apart, and hands the store on.
 ghost use Rattle.std.specs.Prelude.{◌≡◌, length};
-ghost use Rattle.theory.specs.Keeper.{made_from, round_open, answer_result, answer_after, after_answer, drop_result, after_drop};
+ghost use Rattle.theory.specs.Keeper.{made_from, state_of, round_open, answer_result, answer_after, after_answer, drop_result, after_drop};
 ghost use Rattle.keeper.specs.Model.{values_of};
 
 use super::parts::{end_round, rounds_in, spend, test_pick};
-use super::{Keeper, Rounds};
+use super::Keeper;
+use arrayvec::ArrayVec;
 use faults::{Fault, Reason};
 use theory::RoundState;
 
@@ -19,16 +20,22 @@ impl<'a> Keeper<'a> {
             store,
             view_length,
             capacity,
-            promised: 0,
-            rounds: Rounds::new(),
+            records: ArrayVec::new(),
         }
+    }
+
+    // The record of a round, if it was promised.
+    fn record(&self, round: usize) -> Option<RoundState>
+        ensures { result ≡ state_of self.now.records.items round }
+    {
+        self.records.get(round.checked_sub(1)?).copied()
     }
 
     // Whether a round is promised, and neither answered nor dropped.
     fn open_round(&self, round: usize) -> Result<(), Fault>
         ensures { result ≡ round_open (values_of self.now) round }
     {
-        match self.rounds.at(self.promised, round) {
+        match self.record(round) {
             None => Err(Fault::at(Reason::UnknownRound, round)),
             Some(RoundState::Promised) => Ok(()),
             Some(RoundState::Answered | RoundState::Dropped) => Err(Fault::at(
@@ -57,10 +64,8 @@ impl<'a> Keeper<'a> {
         ensures named { self.new.store.ghost_name ≡ self.old.store.ghost_name }
     {
         self.answerable(round, pick, out.len())?;
-        let view_length = self.view_length;
-        let Keeper { store, rounds, .. } = self;
-        spend(store, view_length, round, pick, out);
-        rounds.mark(round, RoundState::Answered);
+        spend(self.store, self.view_length, round, pick, out);
+        self.records[round - 1] = RoundState::Answered;
         Ok(())
     }
 
@@ -71,10 +76,8 @@ impl<'a> Keeper<'a> {
         ensures named { self.new.store.ghost_name ≡ self.old.store.ghost_name }
     {
         self.open_round(round)?;
-        let view_length = self.view_length;
-        let Keeper { store, rounds, .. } = self;
-        end_round(store, view_length, round);
-        rounds.mark(round, RoundState::Dropped);
+        end_round(self.store, self.view_length, round);
+        self.records[round - 1] = RoundState::Dropped;
         Ok(())
     }
 }

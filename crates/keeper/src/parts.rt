@@ -1,5 +1,5 @@
 // Rounds in the store: where they lie, what an answer takes from them, and their end.
-ghost use Rattle.std.specs.Prelude.{◌≡◌, ◌+◌, ◌*◌, ◌≤◌, length, replicate};
+ghost use Rattle.std.specs.Prelude.{◌≡◌, ◌+◌, ◌*◌, ◌<◌, ◌≤◌, length, replicate};
 ghost use Rattle.faults.specs.Outcomes.{map_ok};
 ghost use Rattle.theory.specs.Runs.{next};
 ghost use Rattle.theory.specs.Messages.{answer_bytes};
@@ -27,7 +27,10 @@ const SHORTEST_VIEW: usize = 33;
 
 // How many rounds of views of that length a store of so many bytes holds.
 pub(crate) fn rounds_in(view_length: usize, bytes: usize) -> usize
-    ensures { result ≡ rounds_in view_length bytes }
+    ensures value { result ≡ rounds_in view_length bytes }
+    ensures few { result ≤ 64 }
+    ensures short { 0 < result → view_length ≤ 65535 }
+    ensures room { result * (3 * view_length) ≤ bytes }
 {
     if view_length < SHORTEST_VIEW || view_length > LONGEST_VIEW {
         return 0;

@@ -33,8 +33,8 @@ impl<'a> Keeper<'a> {
     fn next_round(&self) -> Result<usize, Fault>
         ensures { result ≡ next_round (values_of self.now) }
     {
-        if self.promised < self.capacity {
-            Ok(self.promised + 1)
+        if self.records.len() < self.capacity {
+            Ok(self.records.len() + 1)
         } else {
             Err(Fault::at(Reason::KeeperFull, self.capacity))
         }
@@ -88,16 +88,9 @@ impl<'a> Keeper<'a> {
             first: first.len(),
         };
         let round = self.test_promise::<K, S>(lock, key, tape, work1, given)?;
-        let view_length = self.view_length;
-        let Keeper {
-            store,
-            promised,
-            rounds,
-            ..
-        } = self;
         store_round::<K, S>(
-            store,
-            view_length,
+            self.store,
+            self.view_length,
             round,
             sealer,
             lock,
@@ -108,8 +101,7 @@ impl<'a> Keeper<'a> {
             work3,
             first,
         );
-        *promised = round;
-        rounds.mark(round, RoundState::Promised);
+        self.records.push(RoundState::Promised);
         Ok(round)
     }
 
