@@ -1,3 +1,4 @@
 pub mod Written
 pub mod Filled
 pub mod Chained
+pub mod Made

@@ -1,10 +1,12 @@
-// The hash value after one block, and after many.
-ghost use Rattle.std.specs.Prelude.{◌≡◌, ℕ, ◌*◌, ◌≤◌, [], ◌∷◌, map, length, take, slice_index_or};
+// The hash value, and what a block makes of it.
+ghost use Rattle.std.specs.Prelude.{◌≡◌, ℕ, [], ◌∷◌, map, length, take, slice_index_or};
 ghost use Rattle.std.specs.List.{range_with_len};
-ghost use Rattle.parts.specs.Blocks.{over_blocks};
+ghost use Rattle.std.proofs.Common.{lit<};
 ghost use Rattle.sha2_256.specs.Sha256.{◌⊞◌, ch, maj, Σ0, Σ1, σ0, σ1, k, schedule, round, rounds, compressed};
 
-use parts::word_be;
+use parts::states::BlockState;
+use parts::words::Word;
+use std::array;
 
 const K: [u32; 64] = [
     0x428a_2f98,
@@ -115,8 +117,8 @@ fn first_words(block: &[u8]) -> [u32; 64]
     ensures { take 16 result ≡ schedule 16 block.now }
 {
     let mut w = [0; 64];
-    for t in 0..16 {
-        w[t] = word_be(block, t);
+    for (t, word) in w[..16].iter_mut().enumerate() {
+        *word = u32::read(block, t);
     }
     w
 }
@@ -139,11 +141,7 @@ fn expand(block: &[u8]) -> [u32; 64]
 fn add_constants(w: &[u32; 64]) -> [u32; 64]
     ensures { result ≡ map (λ t. slice_index_or k t 0 ⊞ slice_index_or w.now t 0) (range_with_len 0 64) }
 {
-    let mut v = [0; 64];
-    for t in 0..64 {
-        v[t] = K[t].wrapping_add(w[t]);
-    }
-    v
+    array::from_fn(|t| K[t].wrapping_add(w[t]))
 }
 
 // One round, for the sum of its constant and its word: what becomes of `d` and of `h`, which the next round has
@@ -178,23 +176,25 @@ fn mix(w: &[u32; 64], s: &[u32; 8]) -> [u32; 8]
     [a, b, c, d, e, f, g, h]
 }
 
-fn compress(state: &mut [u32; 8], block: &[u8])
-    requires { length block.now ≡ 64 }
-    ensures { state.new ≡ compressed state.old block.now }
-{
-    let w = expand(block);
-    let v = mix(&w, state);
-    for i in 0..8 {
-        state[i] = v[i].wrapping_add(state[i]);
-    }
+#[derive(Clone, Copy)]
+pub struct HashValue {
+    pub words: [u32; 8],
 }
 
-// Takes in the first `count` blocks of `bytes`.
-pub fn absorb(state: &mut [u32; 8], bytes: &[u8], count: usize)
-    requires { 64 * count ≤ length bytes.now }
-    ensures { state.new ≡ over_blocks compressed 64 state.old count bytes.now }
-{
-    for i in 0..count {
-        compress(state, &bytes[64 * i..64 * i + 64]);
+impl BlockState for HashValue {
+    const BLOCK: usize = 64;
+
+    ghost BLOCK = { 64 };
+
+    ghost words = { λ h. h.words };
+
+    ghost step = { compressed };
+
+    ghost some_block = { lit< tt };
+
+    fn take_in(&mut self, block: &[u8]) {
+        let w = expand(block);
+        let v = mix(&w, &self.words);
+        self.words = array::from_fn(|i| v[i].wrapping_add(self.words[i]));
     }
 }
