@@ -1,8 +1,8 @@
 -- Words written one after the other, and what their bytes are.
-use Rattle.std.proofs.Common.{◌≡◌, ℕ, suc, ◌+◌, ◌-◌, ◌*◌, ◌<◌, ◌≤◌, List, [], ◌∷◌, ◌++◌, length, get_or, take, drop, set, replicate, refl, ap, ◌∙◌, mul-le-mul_left, mul-zero, zero-add, mul-one, mul-suc, mul-add, arith}
+use Rattle.std.proofs.Common.{◌≡◌, ℕ, suc, ◌-◌, ◌*◌, ◌<◌, List, [], ◌∷◌, ◌++◌, length, drop, set, replicate, refl, mul-zero, zero-add, mul-suc, arith}
 use Rattle.std.specs.List.{flat_map, AllByRecursion}
 use Rattle.std.proofs.ByRecursion.{All-append}
-use Rattle.std.proofs.lemmas.List.{append_assoc, length-append, length-take-le, take_at, take_more, take_all, flat_map_more, set_at, drop-replicate}
+use Rattle.std.proofs.lemmas.List.{length-append, set_at, drop-replicate}
 use Rattle.parts.specs.Blocks.{written}
 
 -- the bytes of each word, by `bytes`, are `size` many

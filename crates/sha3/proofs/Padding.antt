@@ -1,15 +1,14 @@
 -- Blocks, padding and output of the sponge.
-use Rattle.std.specs.Prelude.{◌≡◌, ℕ, ◌+◌, ◌-◌, ◌*◌, ◌/◌, ◌%◌, ◌<◌, ◌≤◌, true, false, List, [], ◌∷◌, ◌++◌, length, take, drop, replicate, bit_or, nat_eq, slice_index, slice_set, map, refl}
+use Rattle.std.specs.Prelude.{◌≡◌, ℕ, ◌+◌, ◌-◌, ◌*◌, ◌%◌, ◌<◌, ◌≤◌, true, false, List, [], ◌∷◌, ◌++◌, length, drop, bit_or, nat_eq, slice_index, slice_set, map, refl}
 use Rattle.std.proofs.Common.{◌∙◌, get_or, inl, inr, arith}
 use Rattle.std.specs.Int.Bits.{xor_zero_r}
 use Rattle.std.specs.List.{range_with_len}
 use Rattle.std.proofs.lemmas.List.FromFn.{fill_by_all}
 use Rattle.std.proofs.lemmas.Bool.{cases_lt, eq-eqb, ne_eqb}
-use Rattle.std.proofs.lemmas.List.{append_assoc, get_or_append_left, get_or-append_right, get_or-drop, length-append, length-drop, length-replicate, get_or_past, take_all, set_at, get_or_at, replicate_more}
-use Rattle.parts.specs.Words.{le64}
-use Rattle.parts.specs.Blocks.{written, over_blocks}
+use Rattle.std.proofs.lemmas.List.{append_assoc, get_or_append_left, get_or-append_right, get_or-drop, length-append, length-drop, length-replicate, get_or_past, set_at, get_or_at, replicate_more}
+use Rattle.parts.specs.Blocks.{written}
 use Rattle.parts.proofs.Written.{blank, marked}
-use Rattle.sha3.specs.Sha3.{absorbed, padding, padded, sha3_256_of}
+use Rattle.sha3.specs.Sha3.{padding}
 use Rattle.sha3.proofs.Shapes.{added_at}
 
 -- past the block nothing is added
@@ -71,7 +70,7 @@ pub mixed : (a p mixed : List ℕ) → length a ≡ 25 → length p ≡ 136 → 
     ((k : ℕ) → k < 17 → get_or mixed k 0 ≡ added_at a p k) → mixed ++ drop 17 a ≡ map (added_at a p) (range_with_len 0 25)
 mixed a p m ea ep em h =
     fill_by_all (added_at a p) (m ++ drop 17 a) 25 0 (simp (length-append, length-drop) (omega arith)) (λ k l. elim (cases_lt k 17) [
-        | inl b ↦ get_or_append_left m (drop 17 a) 0 k (omega arith) ∙ h k b
-        | inr b ↦ get_or-append_right m (drop 17 a) 17 k 0 em b ∙ get_or-drop 17 a (k - 17) 0 ∙
-            (let e : 17 + (k - 17) ≡ k = omega arith in rw (e, added_past a p k ep b) refl)
-      ])
+      | inl b ↦ get_or_append_left m (drop 17 a) 0 k (omega arith) ∙ h k b
+      | inr b ↦ get_or-append_right m (drop 17 a) 17 k 0 em b ∙ get_or-drop 17 a (k - 17) 0 ∙
+          (let e : 17 + (k - 17) ≡ k = omega arith in rw (e, added_past a p k ep b) refl)
+    ])

@@ -106,8 +106,8 @@ fn chi(a: &[u64; 25]) -> [u64; 25]
 pub fn permute(a: &mut [u64; 25])
     ensures { a.new ≡ keccak 24 a.old }
 {
-    for constant in RC {
+    for constant in &RC {
         *a = chi(&rho_pi(&theta(a)));
-        a[0] ^= constant;
+        a[0] ^= *constant;
     }
 }

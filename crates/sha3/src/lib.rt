@@ -40,6 +40,8 @@ impl BlockState for Sponge {
 
     ghost some_block = { lit< tt };
 
+    // A function of its own, so that the loop over blocks takes none of its registers.
+    #[inline(never)]
     fn take_in(&mut self, block: &[u8]) {
         mix_in(&mut self.lanes, block);
         permute(&mut self.lanes);

@@ -1,4 +1,4 @@
-use Rattle.std.proofs.Common.{◌++◌, length, ap, ◌∙◌, lit<}
+use Rattle.std.proofs.Common.{◌++◌, length, lit<}
 use Rattle.parts.proofs.Chained.{blocks_joined}
 use Rattle.sha2_256.specs.Sha256.{initial, padding, padded, compressed, sha256_of}
 use Rattle.sha2_256.proofs.Sha256Sealer.digest.Goals as goal

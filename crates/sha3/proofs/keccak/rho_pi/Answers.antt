@@ -1,7 +1,6 @@
-use Rattle.std.proofs.Common.{◌+◌, ◌-◌, ◌*◌, ◌/◌, ◌%◌, ◌^◌, get_or, rules, arith}
-use lib.Bits.{bit_xor, bit_and}
+use Rattle.std.proofs.Common.{rules}
 use Rattle.parts.proofs.Made.{made_all}
-use Rattle.sha3.specs.Keccak.{lane, ρ, π}
+use Rattle.sha3.specs.Keccak.{ρ, π}
 use Rattle.sha3.proofs.Shapes.{turned_at}
 use Rattle.sha3.proofs.keccak.rho_pi.Goals as goal
 
