@@ -5,6 +5,7 @@ use Rattle.faults.specs.declared.Fault.{Fault}
 use Rattle.faults.specs.Outcomes.{map_ok}
 use Rattle.faults.proofs.Passed.{err_ok}
 use Rattle.theory.specs.declared.RoundState.{RoundState}
+use Rattle.theory.specs.Records.{record_number}
 use Rattle.theory.specs.Store.{rounds_in}
 use Rattle.theory.specs.Tests.{left}
 use Rattle.theory.specs.declared.Branch.{Branch}
@@ -15,14 +16,15 @@ use Rattle.exports.specs.declared.told.KeeperState.{KeeperState}
 use Rattle.exports.specs.declared.told.Refusal.{Refusal}
 use Rattle.exports.specs.Numbered.{for_one}
 use Rattle.exports.specs.Outcomes.{told_by}
-use Rattle.exports.specs.State.{state_numbered, number_of, states_in, numbers_over, table_in, keeper_in, state_told}
-use Rattle.exports.specs.Keeping.{Leaves, told_in, store_in, state_in, next_in, buffer_in}
+use Rattle.exports.specs.State.{state_numbered, states_in, numbers_over, table_in, keeper_in, state_told}
+use Rattle.exports.specs.Kept.{Keeps}
+use Rattle.exports.specs.Keeping.{Leaves, told_in, store_in, state_in, next_in}
 
 -- the code's keeper after a call, and the state that was saved
 pub few_records : (q : Code) (k : Keeper) → values_of q ≡ k → length k.table ≤ k.capacity
-few_records q k e = subst (λ (v : Keeper). length v.table ≤ v.capacity) e (simp length-take (omega (arith, q.within)))
+few_records q k e = subst (λ (v : Keeper). length v.table ≤ v.capacity) e q.within
 
-pub saved : (s state : KeeperState) (t : List RoundState) (q : Code) (k : Keeper) → values_of q ≡ k → t ≡ take q.promised q.rounds.records → state ≡ state_told t s → state ≡ state_told k.table s
+pub saved : (s state : KeeperState) (t : List RoundState) (q : Code) (k : Keeper) → values_of q ≡ k → t ≡ q.records.items → state ≡ state_told t s → state ≡ state_told k.table s
 saved s state t q k e d h = h ∙ ap (λ (l : List RoundState). state_told l s) (d ∙ ap (λ (v : Keeper). v.table) e)
 
 -- as many records as numbers
@@ -65,23 +67,23 @@ unopened s store e =
     ap (λ (o : Option (List RoundState)). for_one o (λ t. Some (record { view_size = s.view_length; capacity = rounds_in s.view_length (length store); store = store; table = t })) None) (sym e)
 
 -- numbers tell their records
-told_back : (t : List RoundState) → states_in (map number_of t) ≡ Some t
+told_back : (t : List RoundState) → states_in (map record_number t) ≡ Some t
 unfolding states_in
 told_back [] = refl
-told_back (s ∷ t) = ap (λ (o : Option RoundState). for_one o (λ s. for_one (states_in (map number_of t)) (λ u. Some (s ∷ u)) None) None) (back s) ∙ ap (λ (o : Option (List RoundState)). for_one o (λ u. Some (s ∷ u)) None) (told_back t)
+told_back (s ∷ t) = ap (λ (o : Option RoundState). for_one o (λ s. for_one (states_in (map record_number t)) (λ u. Some (s ∷ u)) None) None) (back s) ∙ ap (λ (o : Option (List RoundState)). for_one o (λ u. Some (s ∷ u)) None) (told_back t)
   where
-    back : (s : RoundState) → state_numbered (number_of s) ≡ Some s
+    back : (s : RoundState) → state_numbered (record_number s) ≡ Some s
     back RoundState.Promised = refl
     back RoundState.Answered = refl
     back RoundState.Dropped = refl
 
-length_numbers : (t : List RoundState) → length (map number_of t) ≡ length t
+length_numbers : (t : List RoundState) → length (map record_number t) ≡ length t
 length_numbers [] = refl
 length_numbers (s ∷ t) = let l = length_numbers t in omega arith
 
 -- the records of a state that was saved
-front_told : (t : List RoundState) (ns : List ℕ) → take (length t) (numbers_over t ns) ≡ map number_of t
-front_told t ns = ap (λ (n : ℕ). take n (numbers_over t ns)) (sym (length_numbers t)) ∙ take-append_seam (map number_of t) (drop (length t) ns)
+front_told : (t : List RoundState) (ns : List ℕ) → take (length t) (numbers_over t ns) ≡ map record_number t
+front_told t ns = ap (λ (n : ℕ). take n (numbers_over t ns)) (sym (length_numbers t)) ∙ take-append_seam (map record_number t) (drop (length t) ns)
 
 table_told : (s : KeeperState) (t : List RoundState) (n : ℕ) → length t ≤ rounds_in s.view_length n → table_in (state_told t s) n ≡ Some t
 unfolding table_in
@@ -107,12 +109,6 @@ store_of s store k e = go (table_in s (length store)) e
     go : (o : Option (List RoundState)) → for_one o (λ t. Some (record { view_size = s.view_length; capacity = rounds_in s.view_length (length store); store = store; table = t })) None ≡ Some k → k.store ≡ store
     go None d = let z : ◌≡◌ {A = ℕ} 0 1 = cc in absurd (omega arith)
     go (Some t) d = let f : ◌≡◌ {A = Keeper} (record { view_size = s.view_length; capacity = rounds_in s.view_length (length store); store = store; table = t }) k = cc in sym (ap (λ (x : Keeper). x.store) f)
-
--- what every call of a keeper keeps
-pub record Keeps {A : Type 0} (k : Keeper) (outcome : Result A Fault) (after : Keeper) : Type 0 where
-  pub view : after.view_size ≡ k.view_size
-  pub room : after.capacity ≡ k.capacity
-  pub refused : (f : Fault) → outcome ≡ Err f → after ≡ k
 
 -- what a call over a state tells and leaves
 pub record Carried {A : Type 0} (s : KeeperState) (store : List ℕ) (result : Keeper → Result A Fault) (after : Keeper → Keeper) (told : Result A Refusal) (s' : KeeperState) (store' : List ℕ) : Type 0 where
@@ -154,29 +150,6 @@ module _ {A : Type 0} (s : KeeperState) (store : List ℕ) (result : Keeper → 
           ∙ sym (ap (λ (o : Option Keeper). for_one o (λ k. left (result k) (λ _. state_told (after k).table s) s) s) e);
       next = next_found r s' store' (subst (λ (x : Result A Fault). Keeps k x (after k)) (sym d) keeps) leaves long ∙ sym (ap (λ (o : Option Keeper). for_one o (λ k. Some (after k)) None) e);
     }
-
--- a buffer that the call wrote, and one that it left
-pub buffer_is : (s : KeeperState) (store : List ℕ) (k : Keeper) → keeper_in s store ≡ Some k → (new : Keeper → List ℕ) (old out : List ℕ) → out ≡ new k → out ≡ buffer_in s store new old
-unfolding buffer_in
-buffer_is s store k e new old out d = d ∙ sym (ap (λ (o : Option Keeper). for_one o new old) e)
-
-pub buffer_stays : (s : KeeperState) (store : List ℕ) (new : Keeper → List ℕ) (old : List ℕ) → keeper_in s store ≡ None → old ≡ buffer_in s store new old
-unfolding buffer_in
-buffer_stays s store new old e = sym (ap (λ (o : Option Keeper). for_one o new old) e)
-
-pub drop_keeps : (k : Keeper) (r : ℕ) → Keeps k (drop_result k r) (after_drop k r)
-drop_keeps k r = go (drop_result k r)
-  where
-    go : (o : Result (Unit {0}) Fault) → Keeps k o (left o (λ _. ended k r RoundState.Dropped) k)
-    go (Ok a) = record { view = refl; room = refl; refused = λ f e. err_ok (sym e) }
-    go (Err f) = record { view = refl; room = refl; refused = λ g e. refl }
-
-pub answer_keeps : (k : Keeper) (r pick size : ℕ) → Keeps k (answer_result k r pick size) (after_answer k r pick size)
-answer_keeps k r pick size = go (answer_branch k r pick size)
-  where
-    go : (o : Result Branch Fault) → Keeps k (map_ok {B = Unit {0}} (λ _. tt) o) (left o (λ _. ended k r RoundState.Answered) k)
-    go (Ok b) = record { view = refl; room = refl; refused = λ f e. err_ok (sym e) }
-    go (Err f) = record { view = refl; room = refl; refused = λ g e. refl }
 
 -- no round promised yet
 pub made_is : (L : ℕ) (ns store : List ℕ) → keeper_in (record { view_length = L; promised = 0; records = ns }) store ≡ Some (made_from L store)

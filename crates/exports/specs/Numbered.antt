@@ -5,16 +5,48 @@ use Rattle.kinds.specs.Three.{bit_kind, word_kind, residue_kind}
 use Rattle.seals.specs.Sealing.{Sealing}
 use Rattle.sha2_256.specs.Sha256.{sha256_sealing}
 use Rattle.sha3.specs.Sha3.{sha3_256_sealing}
+use Rattle.exports.specs.declared.names.KindName.{KindName}
+use Rattle.exports.specs.declared.names.SealerName.{SealerName}
 use Rattle.exports.specs.declared.told.Refusal.{Refusal}
 
 -- a kind goes by its own number
-abbrev pub kind_numbered : ℕ → Option Kind
-kind_numbered n = cond (n == 1) (Some bit_kind) (cond (n == 2) (Some word_kind) (cond (n == 3) (Some residue_kind) None))
+abbrev pub kind_named : ℕ → Result KindName Refusal
+kind_named n = cond (n == 1) (Ok KindName.Bit) (cond (n == 2) (Ok KindName.Word) (cond (n == 3) (Ok KindName.Residue) (Err Refusal.NoKind)))
 
-abbrev pub sealing_numbered : ℕ → Option Sealing
-sealing_numbered n = cond (n == 1) (Some sha256_sealing) (cond (n == 2) (Some sha3_256_sealing) None)
+abbrev pub sealer_named : ℕ → Result SealerName Refusal
+sealer_named n = cond (n == 1) (Ok SealerName.Sha256) (cond (n == 2) (Ok SealerName.Sha3_256) (Err Refusal.NoSealer))
 
--- what comes of a number: the rest, or what it leaves where there is nothing of that number
+abbrev pub kind_of : KindName → Kind
+kind_of KindName.Bit = bit_kind
+kind_of KindName.Word = word_kind
+kind_of KindName.Residue = residue_kind
+
+abbrev pub sealing_of : SealerName → Sealing
+sealing_of SealerName.Sha256 = sha256_sealing
+sealing_of SealerName.Sha3_256 = sha3_256_sealing
+
+-- what comes of a value, or the refusal in its place
+abbrev pub or_refused : {A B : Type 0} → Result A Refusal → (A → Result B Refusal) → Result B Refusal
+or_refused (Ok a) f = f a
+or_refused (Err r) f = Err r
+
+-- the kind is named before the sealer
+abbrev pub names : (kind sealer : ℕ) → Result (KindName × SealerName) Refusal
+names kind sealer = or_refused (kind_named kind) (λ k. or_refused (sealer_named sealer) (λ s. Ok (k, s)))
+
+-- the outcome for the kind and the sealer of these numbers
+abbrev pub by_number : {A : Type 0} → (kind sealer : ℕ) → (Kind → Sealing → Result A Refusal) → Result A Refusal
+by_number kind sealer outcome = or_refused (names kind sealer) (λ n. outcome (kind_of n.0) (sealing_of n.1))
+
+abbrev pub chosen_of : Result (KindName × SealerName) Refusal → Option (Kind × Sealing)
+chosen_of (Ok n) = Some (kind_of n.0, sealing_of n.1)
+chosen_of (Err r) = None
+
+-- the kind and the sealer of these numbers, if they name both
+abbrev pub chosen : (kind sealer : ℕ) → Option (Kind × Sealing)
+chosen kind sealer = chosen_of (names kind sealer)
+
+-- what comes of a value, or what is left where there is none
 abbrev pub for_one : {A B : Type 0} → Option A → (A → B) → B → B
 for_one (Some a) f none = f a
 for_one None f none = none
