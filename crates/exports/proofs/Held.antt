@@ -1,17 +1,13 @@
 -- A keeper's state between calls: what a call over it tells and leaves, and what the next call finds.
-use Rattle.std.proofs.Common.{◌≡◌, ℕ, ◌<◌, ◌≤◌, Bool, true, false, cond, leb, List, [], ◌∷◌, ◌++◌, map, length, take, drop, Some, None, Ok, Err, Option, Result, sym, refl, ap, ◌∙◌, subst, arith, length-take, take_all, le-leb, leb-true}
+use Rattle.std.proofs.Common.{◌≡◌, ℕ, ◌≤◌, Bool, true, false, cond, leb, List, [], ◌∷◌, map, length, take, drop, Some, None, Ok, Err, Option, Result, sym, refl, ap, ◌∙◌, subst, arith, length-take, take_all, le-leb, leb-true}
 use lib.Seq.{take-append_seam}
 use Rattle.faults.specs.declared.Fault.{Fault}
-use Rattle.faults.specs.Outcomes.{map_ok}
-use Rattle.faults.proofs.Passed.{err_ok}
 use Rattle.theory.specs.declared.RoundState.{RoundState}
 use Rattle.theory.specs.Records.{record_number}
 use Rattle.theory.specs.Store.{rounds_in}
 use Rattle.theory.specs.Tests.{left}
-use Rattle.theory.specs.declared.Branch.{Branch}
-use Rattle.theory.specs.Keeper.{Keeper, made_from, ended, answer_branch, answer_result, after_answer, drop_result, after_drop}
-use Rattle.keeper.specs.declared.Keeper.{Keeper as Code}
-use Rattle.keeper.specs.Model.{values_of, resumed_from}
+use Rattle.theory.specs.Keeper.{Keeper, made_from}
+use Rattle.keeper.specs.Model.{resumed_from}
 use Rattle.exports.specs.declared.told.KeeperState.{KeeperState}
 use Rattle.exports.specs.declared.told.Refusal.{Refusal}
 use Rattle.exports.specs.Numbered.{for_one}
@@ -19,13 +15,6 @@ use Rattle.exports.specs.Outcomes.{told_by}
 use Rattle.exports.specs.State.{state_numbered, states_in, numbers_over, table_in, keeper_in, state_told}
 use Rattle.exports.specs.Kept.{Keeps}
 use Rattle.exports.specs.Keeping.{Leaves, told_in, store_in, state_in, next_in}
-
--- the code's keeper after a call, and the state that was saved
-pub few_records : (q : Code) (k : Keeper) → values_of q ≡ k → length k.table ≤ k.capacity
-few_records q k e = subst (λ (v : Keeper). length v.table ≤ v.capacity) e q.within
-
-pub saved : (s state : KeeperState) (t : List RoundState) (q : Code) (k : Keeper) → values_of q ≡ k → t ≡ q.records.items → state ≡ state_told t s → state ≡ state_told k.table s
-saved s state t q k e d h = h ∙ ap (λ (l : List RoundState). state_told l s) (d ∙ ap (λ (v : Keeper). v.table) e)
 
 -- as many records as numbers
 long_as : (ns : List ℕ) (t : List RoundState) → Some t ≡ states_in ns → length t ≡ length ns

@@ -1,21 +1,17 @@
 -- Records read from their numbers, and written as numbers.
-use Rattle.std.proofs.Common.{◌≡◌, ℕ, zero, suc, ◌+◌, ◌<◌, ◌≤◌, Bool, true, false, cond, leb, List, [], ◌∷◌, ◌++◌, map, length, get_or, take, drop, set, Some, None, Option, sym, refl, ap, ◌∙◌, append_assoc, append-nil, add-one, arith, drop_of_length-le, take_all, drop-cons, le-leb}
+use Rattle.std.proofs.Common.{◌≡◌, ℕ, zero, suc, ◌+◌, ◌<◌, ◌≤◌, Bool, true, false, cond, leb, List, [], ◌∷◌, ◌++◌, map, length, get_or, take, drop, set, Some, None, Option, sym, refl, ap, ◌∙◌, append_assoc, append-nil, add-one, arith, drop_of_length-le, drop-cons, le-leb}
 use borrow.Author.Tests.{lt-leb}
 use Rattle.theory.specs.declared.RoundState.{RoundState}
 use Rattle.theory.specs.Records.{record_number}
 use Rattle.theory.specs.Store.{rounds_in}
 use Rattle.exports.specs.declared.told.KeeperState.{KeeperState}
 use Rattle.exports.specs.Numbered.{for_one}
-use Rattle.exports.specs.State.{state_numbered, states_in, numbers_over, table_in}
+use Rattle.exports.specs.State.{state_numbered, states_in, table_in}
 
 -- records, then those of the numbers left
 abbrev pub joined : List RoundState → Option (List RoundState) → Option (List RoundState)
 joined t (Some u) = Some (t ++ u)
 joined t None = None
-
-pub read_first : (x : Option (List RoundState)) → x ≡ joined [] x
-read_first (Some u) = refl
-read_first None = refl
 
 -- one number more
 one : (ns : List ℕ) (i : ℕ) → i < length ns → states_in (drop i ns) ≡ for_one (state_numbered (get_or ns i 0)) (λ s. for_one (states_in (drop (suc i) ns)) (λ t. Some (s ∷ t)) None) None
@@ -54,11 +50,6 @@ over_next (x ∷ t) (n ∷ ns) (suc i) d h k = ap (λ (l : List ℕ). record_num
 pub write_next : (t : List RoundState) (ns now : List ℕ) (i : ℕ) (d : RoundState) (v : ℕ) → i < length t → length t ≤ length ns → v ≡ record_number (get_or t i d)
     → now ≡ map record_number (take i t) ++ drop i ns → set now i v ≡ map record_number (take (i + 1) t) ++ drop (i + 1) ns
 write_next t ns now i d v h k e inv = rw add-one ((λ j. set (inv j) i (e j)) ∙ over_next t ns i d h k)
-
-pub write_end : (t : List RoundState) (ns now : List ℕ) (i : ℕ) → i ≤ length t → length t ≤ i → now ≡ map record_number (take i t) ++ drop i ns → now ≡ numbers_over t ns
-write_end t ns now i h k inv =
-    let e : i ≡ length t = omega arith in
-    inv ∙ (λ j. map record_number (take_all i t k j) ++ drop (e j) ns)
 
 -- more rounds promised than the store holds, or not
 pub none_held : (s : KeeperState) (n r : ℕ) → r ≡ rounds_in s.view_length n → r < s.promised → None ≡ table_in s n

@@ -1,5 +1,5 @@
 -- What a keeper's call answers and leaves, where the keeper stands outside as a state and a store.
-use Rattle.std.specs.Prelude.{◌≡◌, ℕ, ◌≤◌, List, length, Some, None, Ok, Err, Option, Result}
+use Rattle.std.specs.Prelude.{◌≡◌, ℕ, ◌≤◌, List, length, Some, None, Err, Option, Result}
 use Rattle.faults.specs.declared.Fault.{Fault}
 use Rattle.theory.specs.Tests.{left}
 use Rattle.theory.specs.Keeper.{Keeper}

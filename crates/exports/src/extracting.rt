@@ -37,7 +37,7 @@ impl Call for Extracting<'_> {
         × (new.work1.ghost_name ≡ old.work1.ghost_name) × (new.work2.ghost_name ≡ old.work2.ghost_name) × (new.key.ghost_name ≡ old.key.ghost_name) };
 
     fn run<K: ElementKind, S: Sealer>(&mut self, sealer: &S) -> Result<Extracted, Refusal> {
-        let found = extract::<K, S>(
+        extract::<K, S>(
             sealer,
             self.lock,
             self.first,
@@ -47,8 +47,8 @@ impl Call for Extracting<'_> {
             self.work1,
             self.work2,
             self.key,
-        )?;
-        Ok(found)
+        )
+        .map_err(Refusal::from)
     }
 
     fn refuse(&mut self) {

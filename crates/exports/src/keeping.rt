@@ -108,8 +108,7 @@ impl KeeperState {
         ensures shows { R.Shows (keeper_in self.old store.old) request.old request.new }
     {
         let table = self.table(store.len()).ok_or(Refusal::BadKeeper)?;
-        self.put_over(&table, store, request)?;
-        Ok(())
+        self.put_over(&table, store, request).map_err(Refusal::from)
     }
 }
 

@@ -40,8 +40,8 @@ impl Call for Verifying<'_> {
             self.answer,
             self.work1,
             self.work2,
-        )?;
-        Ok(())
+        )
+        .map_err(Refusal::from)
     }
 
     fn refuse(&mut self) {

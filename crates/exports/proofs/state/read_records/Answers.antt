@@ -1,6 +1,4 @@
-use Rattle.std.proofs.Common.{◌≡◌, List, Option, Some, None, ℕ, get_or, sym, ap, ◌∙◌, arith, rules}
-use Rattle.std.specs.Result.{result_ok}
-use Rattle.theory.specs.declared.RoundState.{RoundState}
+use Rattle.std.proofs.Common.{◌≡◌, Some, None, get_or, sym, ◌∙◌, arith, rules}
 use Rattle.exports.specs.State.{state_numbered, states_in, records_of}
 use Rattle.exports.proofs.Tables.{read_next, read_none, read_end}
 use Rattle.exports.proofs.state.read_records.Goals as goal
@@ -15,7 +13,7 @@ pub loop-number-preserved : goal.loop-number-preserved
 loop-number-preserved c =
     let some : state_numbered (get_or c.args.numbers.now c.loop-number.number-index 0) ≡ Some c.in_ok-ok.field-0 = search rules in
     let next =
-        read_next c.args.numbers.now c.loop-number.records.items c.loop-number.number-index c.in_ok-ok.field-0 (states_in c.args.numbers.now) c.loop-number-test.true some c.loop-number.invariant.1 in
+    read_next c.args.numbers.now c.loop-number.records.items c.loop-number.number-index c.in_ok-ok.field-0 (states_in c.args.numbers.now) c.loop-number-test.true some c.loop-number.invariant.1 in
     (omega (arith, c.push.ensures.len, c.loop-number.invariant.0), search rules)
 
 pub returns : goal.returns

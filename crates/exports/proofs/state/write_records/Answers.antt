@@ -1,4 +1,3 @@
-use Rattle.std.proofs.Common.{rules}
 use Rattle.theory.specs.declared.RoundState.TheVariants.{Promised}
 use Rattle.exports.proofs.Tables.{write_next}
 use Rattle.exports.proofs.state.write_records.Goals as goal
