@@ -1,12 +1,12 @@
 // The keeper's calls: each only tests, takes itself apart, and hands the store on.
 ghost use Rattle.std.specs.Prelude.{◌≡◌, length};
-ghost use Rattle.theory.specs.Keeper.{made_from, state_of, round_open, answer_result, answer_after, after_answer, drop_result, after_drop};
+ghost use Rattle.theory.specs.Keeper.{made_from, state_of, round_open, answer_branch, answer_result, answer_after, after_answer, drop_result, after_drop};
 ghost use Rattle.keeper.specs.Model.{values_of};
 
-use super::parts::{end_round, rounds_in, spend, test_pick};
+use super::parts::{end_round, rounds_in, spend};
 use super::Keeper;
 use arrayvec::ArrayVec;
-use faults::{Fault, Reason};
+use faults::{Branch, Fault, Reason};
 use theory::RoundState;
 
 impl<'a> Keeper<'a> {
@@ -45,15 +45,16 @@ impl<'a> Keeper<'a> {
         }
     }
 
-    fn answerable(&self, round: usize, pick: u8, size: usize) -> Result<(), Fault>
-        ensures { result ≡ answer_result (values_of self.now) round pick size }
+    // The branch of a pick that a round may answer into a buffer of that size.
+    fn answerable(&self, round: usize, pick: u8, size: usize) -> Result<Branch, Fault>
+        ensures { result ≡ answer_branch (values_of self.now) round pick size }
     {
         self.open_round(round)?;
-        test_pick(pick)?;
+        let branch = Branch::try_from(pick)?;
         if size != 3 + 2 * self.view_length {
             return Err(Fault::at(Reason::WrongSize, 1));
         }
-        Ok(())
+        Ok(branch)
     }
 
     // Opens the views of two branches of a round, once.
@@ -63,8 +64,8 @@ impl<'a> Keeper<'a> {
         ensures shown { out.new ≡ answer_after (values_of self.old) round pick out.old }
         ensures named { self.new.store.ghost_name ≡ self.old.store.ghost_name }
     {
-        self.answerable(round, pick, out.len())?;
-        spend(self.store, self.view_length, round, pick, out);
+        let branch = self.answerable(round, pick, out.len())?;
+        spend(self.store, self.view_length, round, branch, out);
         self.records[round - 1] = RoundState::Answered;
         Ok(())
     }

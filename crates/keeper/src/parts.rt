@@ -1,17 +1,15 @@
 // Rounds in the store: where they lie, what an answer takes from them, and their end.
 ghost use Rattle.std.specs.Prelude.{◌≡◌, ◌+◌, ◌*◌, ◌<◌, ◌≤◌, length, replicate};
-ghost use Rattle.faults.specs.Outcomes.{map_ok};
 ghost use Rattle.theory.specs.Runs.{next};
 ghost use Rattle.theory.specs.Messages.{answer_bytes};
 ghost use Rattle.theory.specs.Store.{rounds_in, round_at, round_length, put};
-ghost use Rattle.theory.specs.Verdict.{picked};
 ghost use Rattle.branches.specs.Walks.{circuit_of};
-ghost use Rattle.keeper.specs.Model.{branch_at, Placed, view_in, none};
+ghost use Rattle.keeper.specs.Model.{Placed, view_in};
 ghost use Rattle.keeper.specs.Promise.{round_for, first_for, Ready};
 
 use branches::bytes::clear;
 use branches::groups::group_length;
-use faults::{Fault, Reason};
+use faults::Branch;
 use kinds::kind::ElementKind;
 use locks::limits::LONGEST_VIEW;
 use locks::lock::Lock;
@@ -46,32 +44,22 @@ pub(crate) fn round_start(view_length: usize, round: usize) -> usize
     3 * view_length * (round - 1)
 }
 
-pub(crate) fn test_pick(pick: u8) -> Result<(), Fault>
-    ensures { result ≡ map_ok none (picked pick) }
-{
-    match pick {
-        1 | 2 | 3 => Ok(()),
-        _ => Err(Fault::at(Reason::WrongPick, pick as usize)),
-    }
-}
-
 // Mark, pick, and the views of that branch and the one after it, of the round that begins at `start`.
-fn write_answer(out: &mut [u8], store: &[u8], start: usize, view_length: usize, pick: u8)
+fn write_answer(out: &mut [u8], store: &[u8], start: usize, view_length: usize, branch: Branch)
     requires long { length out.old ≡ 3 + 2 * view_length }
     requires room { start + 3 * view_length ≤ length store.now }
-    requires pick { (1 ≤ pick) × (pick ≤ 3) }
-    ensures { out.new ≡ answer_bytes (branch_at pick) (view_in store.now start view_length (branch_at pick)) (view_in store.now start view_length (next (branch_at pick))) }
+    ensures { out.new ≡ answer_bytes branch (view_in store.now start view_length branch) (view_in store.now start view_length (next branch)) }
 {
-    copy_at(out, 0, &[b'A', b'N', pick]);
+    copy_at(out, 0, &[b'A', b'N', branch.number()]);
     let picked = part(
         store,
-        start + view_length * (pick as usize - 1),
+        start + view_length * branch.before(),
         view_length,
     );
     copy_at(out, 3, picked);
     let following = part(
         store,
-        start + view_length * (pick as usize % 3),
+        start + view_length * branch.after().before(),
         view_length,
     );
     copy_at(out, 3 + view_length, following);
@@ -87,11 +75,16 @@ pub(crate) fn end_round(store: &mut [u8], view_length: usize, round: usize)
 }
 
 // Writes the answer from the round's place, and zeroes that place.
-pub(crate) fn spend(store: &mut [u8], view_length: usize, round: usize, pick: u8, out: &mut [u8])
+pub(crate) fn spend(
+    store: &mut [u8],
+    view_length: usize,
+    round: usize,
+    branch: Branch,
+    out: &mut [u8],
+)
     requires placed { Placed view_length round (length store.old) }
     requires long { length out.old ≡ 3 + 2 * view_length }
-    requires pick { (1 ≤ pick) × (pick ≤ 3) }
-    ensures out { out.new ≡ answer_bytes (branch_at pick) (view_in store.old (round_at view_length round) view_length (branch_at pick)) (view_in store.old (round_at view_length round) view_length (next (branch_at pick))) }
+    ensures out { out.new ≡ answer_bytes branch (view_in store.old (round_at view_length round) view_length branch) (view_in store.old (round_at view_length round) view_length (next branch)) }
     ensures store { store.new ≡ put store.old (round_at view_length round) (replicate (round_length view_length) 0) }
 {
     write_answer(
@@ -99,7 +92,7 @@ pub(crate) fn spend(store: &mut [u8], view_length: usize, round: usize, pick: u8
         store,
         round_start(view_length, round),
         view_length,
-        pick,
+        branch,
     );
     end_round(store, view_length, round);
 }

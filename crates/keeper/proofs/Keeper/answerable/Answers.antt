@@ -2,7 +2,7 @@ use Rattle.std.proofs.Common.{◌≤◌, sym, ◌∙◌, arith}
 use Rattle.keeper.proofs.Tables.{open_range}
 use Rattle.keeper.proofs.Keeper.answerable.Goals as goal
 
-short : (c : goal.In_ok-test_pick) → c.args.self.now.view_length ≤ 65535
+short : (c : goal.In_ok-branch) → c.args.self.now.view_length ≤ 65535
 short c =
     let k = c.args.self.now in
     let r = open_range c.args.self.now.records.items c.args.round (sym c.open_round.ensures ∙ c.in_ok-open_round.was) in
