@@ -1,5 +1,6 @@
 -- What the exported calls answer and leave: the engine's definitions, at the kind and the sealer of these numbers.
 use Rattle.std.specs.Prelude.{ℕ, List, length, Result}
+use Rattle.faults.specs.Branches.{pick_byte}
 use Rattle.faults.specs.Outcomes.{map_ok}
 use Rattle.kinds.specs.Kind.{Kind}
 use Rattle.locks.specs.Circuit.{Circuit}
@@ -51,4 +52,4 @@ module _ (kind sealer : ℕ) (lock first answer1 answer2 answer3 : List ℕ) (wo
 -- branch 0 for a key
 abbrev pub extracted_told : Extracted → ToldExtracted
 extracted_told Extracted.Key = record { offset = 0; branch = 0 }
-extracted_told (Extracted.Collision b o) = record { offset = o; branch = b }
+extracted_told (Extracted.Collision b o) = record { offset = o; branch = pick_byte b }

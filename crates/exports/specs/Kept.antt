@@ -4,7 +4,7 @@ use Rattle.std.proofs.Common.{sym}
 use Rattle.faults.specs.declared.Fault.{Fault}
 use Rattle.faults.specs.Outcomes.{map_ok}
 use Rattle.faults.proofs.Passed.{err_ok}
-use Rattle.theory.specs.declared.Branch.{Branch}
+use Rattle.faults.specs.declared.Branch.{Branch}
 use Rattle.theory.specs.declared.RoundState.{RoundState}
 use Rattle.theory.specs.Tests.{left}
 use Rattle.theory.specs.Keeper.{Keeper, ended, answer_branch, answer_result, after_answer, drop_result, after_drop}

@@ -1,6 +1,7 @@
 -- What C is told of an outcome.
-use Rattle.std.specs.Prelude.{ℕ, Ok, Err, Result}
+use Rattle.std.specs.Prelude.{ℕ, None, Ok, Err, Result}
 use Rattle.faults.specs.declared.Fault.{Fault}
+use Rattle.faults.specs.Branches.{told_branch}
 use Rattle.faults.specs.Numbers.{number_of}
 use Rattle.theory.specs.declared.PickFault.{PickFault}
 use Rattle.theory.specs.Extraction.{beside}
@@ -10,7 +11,7 @@ use Rattle.exports.specs.declared.told.ToldFault.{ToldFault}
 -- an outcome of the engine; its fault speaks of no pick
 abbrev pub told_by : {A : Type 0} → Result A Fault → Result A Refusal
 told_by (Ok a) = Ok a
-told_by (Err f) = Err (Refusal.Refused (beside 0 f))
+told_by (Err f) = Err (Refusal.Refused (beside None f))
 
 -- an outcome whose fault tells its pick
 abbrev pub told_beside : {A : Type 0} → Result A PickFault → Result A Refusal
@@ -32,7 +33,7 @@ abbrev pub no_fault : ToldFault
 no_fault = record { place = 0; number = 0; branch = 0; pick = 0 }
 
 abbrev pub fault_told : PickFault → ToldFault
-fault_told f = record { place = f.fault.place; number = number_of f.fault.reason; branch = f.fault.branch; pick = f.pick }
+fault_told f = record { place = f.fault.place; number = number_of f.fault.reason; branch = told_branch f.fault.branch; pick = told_branch f.pick }
 
 -- why the engine refused, and all zero where it did not
 abbrev pub refusal_told : Refusal → ToldFault

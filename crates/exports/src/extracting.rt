@@ -68,7 +68,7 @@ impl From<Extracted> for ToldExtracted {
             },
             Extracted::Collision { branch, offset } => ToldExtracted {
                 offset: offset as u64,
-                branch,
+                branch: branch.number(),
             },
         }
     }

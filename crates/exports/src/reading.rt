@@ -25,7 +25,7 @@ fn lengths_of<K: ElementKind, S: Sealer>(lock: Lock<'_>) -> ToldLengths
         key: lock.key_length::<K>() as u64,
         view: lock.view_length::<K>() as u64,
         tape: lock.tape_length::<K>() as u64,
-        first: lock.first_length::<K>(S::seal_length() as u8) as u64,
+        first: lock.first_length::<K>(S::LENGTH as u8) as u64,
         answer: lock.answer_length::<K>() as u64,
         work: lock.work_length::<K>() as u64,
     }

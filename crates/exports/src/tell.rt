@@ -1,11 +1,11 @@
 // An outcome as C is told it: a status, and a fault.
-ghost use Rattle.std.specs.Prelude.{◌≡◌};
+ghost use Rattle.std.specs.Prelude.{◌≡◌, None};
 ghost use Rattle.theory.specs.Extraction.{beside};
 ghost use Rattle.exports.specs.declared.told.Refusal.{Refusal};
 ghost use Rattle.exports.specs.Outcomes.{fault_told, status_by, refusal_told, status_of, fault_of};
 
 use crate::told::{Refusal, ToldFault};
-use faults::Fault;
+use faults::{Branch, Fault};
 use theory::PickFault;
 
 const NO_FAULT: ToldFault = ToldFault {
@@ -25,10 +25,10 @@ impl From<PickFault> for Refusal {
 
 // A fault that speaks of no pick.
 impl From<Fault> for Refusal {
-    ghost from_gives = { λ fault refusal. refusal ≡ Refusal.Refused (beside 0 fault) };
+    ghost from_gives = { λ fault refusal. refusal ≡ Refusal.Refused (beside None fault) };
 
     fn from(fault: Fault) -> Refusal {
-        Refusal::Refused(PickFault { pick: 0, fault })
+        Refusal::Refused(PickFault { pick: None, fault })
     }
 }
 
@@ -39,8 +39,8 @@ impl From<PickFault> for ToldFault {
         ToldFault {
             place: fault.fault.place as u64,
             number: fault.fault.reason.number(),
-            branch: fault.fault.branch,
-            pick: fault.pick,
+            branch: Branch::told(fault.fault.branch),
+            pick: Branch::told(fault.pick),
         }
     }
 }
