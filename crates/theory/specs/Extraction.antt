@@ -42,7 +42,7 @@ or_collision None b x = x
 or_collision (Some o) b x = Extracted.Collision b o
 
 module _ (K : Kind) (S : Sealing) (l : Circuit (List ℕ)) where
-  -- 7: the verifier's sizes for three answers, then the key buffer's
+  -- the verifier's sizes for three answers, then the key buffer's
   abbrev pub extract_sizes : (first answer1 answer2 answer3 work1 work2 key : ℕ) → Verdict
   extract_sizes first answer1 answer2 answer3 work1 work2 key =
       check (nat_le (length_of_view K l) S.longest) (fault Reason.WrongSize 0)

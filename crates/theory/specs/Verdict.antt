@@ -1,4 +1,4 @@
--- What verify answers, with all its faults in their order; and the same as a relation, Figure 6 of the ZKBoo paper.
+-- What verify answers, with all its faults in their order; and the same as a relation.
 use Rattle.std.specs.Prelude.{◌≡◌, ℕ, suc, ◌+◌, ◌≤◌, Bool, true, cond, List, [], ◌∷◌, length, Some, None, Ok, Option, ◌==◌, nat_le, slice_index, slice_index_or}
 use Rattle.std.specs.List.{AllByRecursion}
 use Rattle.faults.specs.declared.Reason.{Reason}
@@ -30,7 +30,7 @@ wrong_product K i n own (g ∷ gs) A B =
     cond (is_right K g A B) (wrong_product K i n (suc own) gs (step (ops_of K) i g A) (step (ops_of K) n g B)) (Some own)
 
 module _ (K : Kind) (S : Sealing) (l : Circuit (List ℕ)) where
-  -- 7: the view within the sealer's longest message, and the buffers' sizes
+  -- the view within the sealer's longest message, and the buffers' sizes
   abbrev pub verify_sizes : (first answer work1 work2 : ℕ) → Verdict
   verify_sizes first answer work1 work2 =
       check (nat_le (length_of_view K l) S.longest) (fault Reason.WrongSize 0)
@@ -39,7 +39,7 @@ module _ (K : Kind) (S : Sealing) (l : Circuit (List ℕ)) where
       (check (nat_le (length_of_work K l) work1) (fault Reason.WrongSize 3)
       (check (nat_le (length_of_work K l) work2) (fault Reason.WrongSize 4) (Ok tt)))))
 
-  -- 15: the mark, then the elements of branches 1, 2, 3
+  -- the mark, then the elements of branches 1, 2, 3
   abbrev pub first_formed : (fm : List ℕ) → Verdict
   first_formed fm =
       check (marked 70 77 fm) (fault Reason.MalformedFirstMessage 0)
@@ -54,7 +54,7 @@ module _ (K : Kind) (S : Sealing) (l : Circuit (List ℕ)) where
       (both (lawful_at K Reason.MalformedAnswer (at + masks_at K l) A.masks)
       (lawful_at K Reason.MalformedAnswer (at + products_at K l) A.products))
 
-  -- 16: the mark, the pick, then the elements of both views
+  -- the mark, the pick, then the elements of both views
   abbrev pub answer_formed : Branch → (an : List ℕ) → Verdict
   answer_formed e an =
       check (marked 65 78 an) (fault Reason.MalformedAnswer 0)
@@ -62,7 +62,7 @@ module _ (K : Kind) (S : Sealing) (l : Circuit (List ℕ)) where
       (both (view_formed 3 (view_of K l (picked_view K l an)).1)
       (view_formed (3 + length_of_view K l) (view_of K l (next_view K l an)).1)))
 
-  -- 17 to 20: output shares and targets, seals, reruns, products; of the views the picked one first
+  -- output shares and targets, seals, reruns, products; of the views the picked one first
   abbrev pub figure_holds : (fm : List ℕ) → Branch → (an : List ℕ) → Verdict
   figure_holds fm e an =
       let y : Branch → List (List ℕ) = outs_in K l fm in
@@ -75,7 +75,7 @@ module _ (K : Kind) (S : Sealing) (l : Circuit (List ℕ)) where
       (both (first_at (unlike (at_outputs (ops_of K) l.outputs (rerun (ops_of K) (next e) l.gates B)) (y (next e))) (λ i. fault_in (next e) Reason.WrongOutputShare i))
       (first_at (wrong_product K e (next e) l.inputs l.gates A B) (λ w. fault_in e Reason.WrongProduct w))))))
 
-  -- 15 to 20, of the messages alone
+  -- all of it, of the messages alone
   abbrev pub messages_right : (fm : List ℕ) → Branch → (an : List ℕ) → Verdict
   messages_right fm e an = both (first_formed fm) (both (answer_formed e an) (figure_holds fm e an))
 
@@ -86,7 +86,7 @@ verified K S lock fm pick an work1 work2 =
     both (verify_sizes K S l (length fm) (length an) work1 work2)
     (and_then (picked pick) (λ e. messages_right K S l fm e an)))
 
--- Figure 6, with the seals: of output shares y and seals z, the views a and b of branch e and of the one after it
+-- the checks with the seals: of output shares y and seals z, the views a and b of branch e and of the one after it
 pub record Passes (K : Kind) (S : Sealing) (l : Circuit (List ℕ)) (y : Branch → List (List ℕ)) (z : Branch → List ℕ) (e : Branch) (a b : Blinded) : Type 0 where
   pub blind_a : length a.0 ≡ 32
   pub blind_b : length b.0 ≡ 32
@@ -96,7 +96,7 @@ pub record Passes (K : Kind) (S : Sealing) (l : Circuit (List ℕ)) (y : Branch 
   pub seal_a : S.seal (view_bytes K a) ≡ z e
   pub seal_b : S.seal (view_bytes K b) ≡ z (next e)
 
--- the messages are well-formed and the checks of Figure 6 hold of what they say
+-- the messages are well-formed and the checks hold of what they say
 pub record Accepted (K : Kind) (S : Sealing) (lock fm : List ℕ) (e : Branch) (an : List ℕ) (work1 work2 : ℕ) (l : Circuit (List ℕ)) : Type 0 where
   pub reads : lock_of K lock ≡ Ok l
   pub sealable : length_of_view K l ≤ S.longest

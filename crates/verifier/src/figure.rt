@@ -1,4 +1,4 @@
-// The checks of Figure 6 of the ZKBoo paper, on messages whose elements are lawful.
+// The checks of the two opened branches, on messages whose elements are lawful.
 ghost use Rattle.std.specs.Prelude.{◌≡◌, ◌+◌, ◌≤◌, length, Some, None};
 ghost use Rattle.std.specs.List.{AllByRecursion};
 ghost use Rattle.faults.specs.Numbers.{fault_in};
