@@ -1,12 +1,12 @@
 -- Tests in order, and what each tells.
-use Rattle.std.proofs.Common.{◌≡◌, ℕ, suc, Bool, true, false, cond, eqb, List, [], ◌∷◌, length, get_or, Some, None, Ok, Err, Option, Result, sym, refl, ap, ◌∙◌, subst, ap₂, arith}
-use Rattle.std.proofs.lemmas.Bool.{eqb-true, eqb-false, eq-eqb}
+use Rattle.std.proofs.Common.{◌≡◌, ℕ, suc, Bool, true, false, cond, eqb, List, [], ◌∷◌, length, get_or, Some, None, Ok, Err, Option, Result, sym, refl, ap, ◌∙◌, ap₂, arith}
+use Rattle.std.proofs.lemmas.Bool.Decides.{Decides-eqb}
+use Rattle.std.proofs.lemmas.Slice.Eq.{bytes_eq-Decides}
 use Rattle.std.specs.List.{AllByRecursion}
 use Rattle.faults.specs.declared.Fault.{Fault}
 use Rattle.faults.specs.declared.Reason.{Reason}
 use Rattle.faults.specs.Outcomes.{check}
 use Rattle.kinds.specs.Kind.{Kind, Lawful, same_row}
-use Rattle.kinds.proofs.Same.{same_refl, same_true}
 use Rattle.locks.specs.Circuit.{Gate, ac, mc, ad, mu, mus}
 use Rattle.theory.specs.Algebra.{ops_of}
 use Rattle.theory.specs.Runs.{Branch, View, tail, head, right, step, due}
@@ -14,6 +14,7 @@ use Rattle.theory.specs.Tests.{Verdict, both, first_at, later, unlawful, lawful_
 use Rattle.theory.specs.Verdict.{wrong_product}
 use Rattle.theory.specs.Soundness.{FirstUnlike}
 use Rattle.theory.specs.Rules.{product_wires}
+use Rattle.theory.proofs.Unlikes.{later_none, none_same, same_none, some_first}
 
 pub both_ok : (a b : Verdict) → both a b ≡ Ok tt → (a ≡ Ok tt) × (b ≡ Ok tt)
 both_ok (Ok x) b h = (refl, h)
@@ -31,10 +32,6 @@ first_none (Some i) f h = cc
 
 pub none_first : {o : Option ℕ} (f : ℕ → Fault) → o ≡ None → first_at o f ≡ Ok tt
 none_first f h = ap (λ x. first_at x f) h
-
-pub later_none : (o : Option ℕ) → later o ≡ None → o ≡ None
-later_none None h = refl
-later_none (Some i) h = cc
 
 pub lawful_all : (K : Kind) (xs : List (List ℕ)) → unlawful K xs ≡ None → AllByRecursion (Lawful K) xs
 lawful_all K [] h = tt
@@ -55,42 +52,17 @@ group_ok K r at es h = lawful_all K es (first_none _ _ h)
 pub ok_group : (K : Kind) (r : Reason) (at : ℕ) (es : List (List ℕ)) → AllByRecursion (Lawful K) es → lawful_at K r at es ≡ Ok tt
 ok_group K r at es h = none_first _ (all_lawful K es h)
 
-pub differ_same : (xs ys : List ℕ) → differ xs ys ≡ None → xs ≡ ys
-differ_same [] [] h = refl
-differ_same [] (y ∷ ys) h = cc
-differ_same (x ∷ xs) [] h = cc
-differ_same (x ∷ xs) (y ∷ ys) h = go (differ_same xs ys) (eqb x y) refl h
-  where
-    go : (differ xs ys ≡ None → xs ≡ ys) → (b : Bool) → eqb x y ≡ b → cond b (later (differ xs ys)) (Some 0) ≡ None → x ∷ xs ≡ y ∷ ys
-    go ih true e k = ap₂ {C = List ℕ} (λ z zs. z ∷ zs) (eqb-true x y e) (ih (later_none _ k))
-    go ih false e k = cc
-
-differ_refl : (xs : List ℕ) → differ xs xs ≡ None
-differ_refl [] = refl
-differ_refl (x ∷ xs) = ap₂ (λ b o. cond b (later o) (Some 0)) (eq-eqb x x refl) (differ_refl xs)
-
-pub same_differ : {xs ys : List ℕ} → xs ≡ ys → differ xs ys ≡ None
-same_differ {xs} {ys} h = subst (λ z. differ xs z ≡ None) h (differ_refl xs)
-
 pub same_bytes : {xs ys : List ℕ} → xs ≡ ys → same_row xs ys ≡ true
-same_bytes {xs} {ys} h = subst (λ z. same_row xs z ≡ true) h (same_refl xs)
+same_bytes {xs} {ys} h = (bytes_eq-Decides xs ys).1 h
+
+pub differ_same : (xs ys : List ℕ) → differ xs ys ≡ None → xs ≡ ys
+differ_same = none_same eqb Decides-eqb
 
 pub unlike_same : (xs ys : List (List ℕ)) → unlike xs ys ≡ None → xs ≡ ys
-unlike_same [] [] h = refl
-unlike_same [] (y ∷ ys) h = cc
-unlike_same (x ∷ xs) [] h = cc
-unlike_same (x ∷ xs) (y ∷ ys) h = go (unlike_same xs ys) (same_row x y) refl h
-  where
-    go : (unlike xs ys ≡ None → xs ≡ ys) → (b : Bool) → same_row x y ≡ b → cond b (later (unlike xs ys)) (Some 0) ≡ None → x ∷ xs ≡ y ∷ ys
-    go ih true e k = ap₂ {C = List (List ℕ)} (λ z zs. z ∷ zs) (same_true x y e) (ih (later_none _ k))
-    go ih false e k = cc
-
-unlike_refl : (xs : List (List ℕ)) → unlike xs xs ≡ None
-unlike_refl [] = refl
-unlike_refl (x ∷ xs) = ap₂ (λ b o. cond b (later o) (Some 0)) (same_bytes {xs = x} refl) (unlike_refl xs)
+unlike_same = none_same same_row bytes_eq-Decides
 
 pub same_unlike : {xs ys : List (List ℕ)} → xs ≡ ys → unlike xs ys ≡ None
-same_unlike {xs} {ys} h = subst (λ z. unlike xs z ≡ None) h (unlike_refl xs)
+same_unlike = same_none same_row bytes_eq-Decides
 
 abbrev pub wire_of : List ℕ → Option ℕ → Option ℕ
 wire_of ws None = None
@@ -147,17 +119,4 @@ right_products K i n own gs A B h k = wrong_is K i n own gs A B h ∙ ap (wire_o
 
 -- the first offset at which two lists of one length differ
 pub differ_first : (xs ys : List ℕ) (o : ℕ) → length xs ≡ length ys → differ xs ys ≡ Some o → FirstUnlike xs ys o
-differ_first [] [] o l h = cc
-differ_first [] (y ∷ ys) o l h = cc
-differ_first (x ∷ xs) [] o l h = cc
-differ_first (x ∷ xs) (y ∷ ys) o l h = go (λ i. differ_first xs ys i cc) (eqb x y) refl (differ xs ys) refl h
-  where
-    go : ((i : ℕ) → differ xs ys ≡ Some i → FirstUnlike xs ys i) → (b : Bool) → eqb x y ≡ b → (d : Option ℕ) → differ xs ys ≡ d → cond b (later d) (Some 0) ≡ Some o → FirstUnlike (x ∷ xs) (y ∷ ys) o
-    go ih true e None d k = cc
-    go ih true e (Some i) d k =
-        let r = ih i d in
-        let at : suc i ≡ o = cc in
-        subst (FirstUnlike (x ∷ xs) (y ∷ ys)) at (omega (arith, r.0), omega (arith, r.1), ap₂ {C = List ℕ} (λ z zs. z ∷ zs) (eqb-true x y e) r.2, r.3)
-    go ih false e d dd k =
-        let at : 0 ≡ o = cc in
-        subst (FirstUnlike (x ∷ xs) (y ∷ ys)) at (omega arith, omega arith, refl, eqb-false x y e)
+differ_first xs ys o l h = let r = some_first eqb Decides-eqb 0 xs ys o l h in (r.0, omega (arith, r.0), r.1, r.2)

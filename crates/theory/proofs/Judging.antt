@@ -4,13 +4,14 @@ use Rattle.std.specs.List.{AllByRecursion}
 use Rattle.faults.specs.declared.Fault.{Fault}
 use Rattle.faults.specs.Outcomes.{check, and_then}
 use Rattle.kinds.specs.Kind.{Kind, Lawful, same_row}
-use Rattle.kinds.proofs.Same.{same_true}
 use Rattle.theory.specs.Tests.{Verdict, first_at, later, unlawful, unlike}
 use Rattle.faults.specs.declared.Branch.{Branch}
 use Rattle.theory.specs.declared.Extracted.{Extracted}
 use Rattle.theory.specs.declared.PickFault.{PickFault}
 use Rattle.theory.specs.Extraction.{beside, extract_then}
 use Rattle.theory.specs.Rules.{Rule, AllKept, FirstBroken, Judged, must, all_lawful, all_equal, DifferFirst, beside_pick}
+use Rattle.theory.proofs.Unlikes.{some_first, first_some}
+use Rattle.std.proofs.lemmas.Slice.Eq.{bytes_eq-Decides}
 use Rattle.theory.proofs.Checked as checked
 use Rattle.theory.proofs.Checked.{lawful_all, unlike_same, same_unlike, same_bytes}
 
@@ -187,35 +188,6 @@ elements K at es =
     }
 
 -- rows that differ
-unlike_first : (xs ys : List (List ℕ)) (i : ℕ) → length xs ≡ length ys → unlike xs ys ≡ Some i → DifferFirst xs ys i
-unlike_first [] [] i l h = cc
-unlike_first [] (y ∷ ys) i l h = cc
-unlike_first (x ∷ xs) [] i l h = cc
-unlike_first (x ∷ xs) (y ∷ ys) i l h = go (λ j. unlike_first xs ys j cc) (same_row x y) refl (unlike xs ys) refl h
-  where
-    go : ((j : ℕ) → unlike xs ys ≡ Some j → DifferFirst xs ys j) → (b : Bool) → same_row x y ≡ b → (o : Option ℕ) → unlike xs ys ≡ o → cond b (later o) (Some 0) ≡ Some i → DifferFirst (x ∷ xs) (y ∷ ys) i
-    go ih true e None eo k = cc
-    go ih true e (Some j) eo k =
-        let r = ih j eo in
-        let at : suc j ≡ i = cc in
-        subst (DifferFirst (x ∷ xs) (y ∷ ys)) at (omega (arith, r.0), ap₂ {C = List (List ℕ)} (λ z zs. z ∷ zs) (same_true x y e) r.1, r.2)
-    go ih false e o eo k =
-        let at : 0 ≡ i = cc in
-        subst (DifferFirst (x ∷ xs) (y ∷ ys)) at (omega arith, refl, λ same. (cc (same_bytes same)))
-
-first_unlike : (xs ys : List (List ℕ)) (i : ℕ) → length xs ≡ length ys → DifferFirst xs ys i → unlike xs ys ≡ Some i
-first_unlike [] ys i l h = absurd (omega (arith, h.0))
-first_unlike (x ∷ xs) [] i l h = cc
-first_unlike (x ∷ xs) (y ∷ ys) zero l h = go (same_row x y) refl
-  where
-    go : (b : Bool) → same_row x y ≡ b → cond b (later (unlike xs ys)) (Some 0) ≡ Some 0
-    go true e = absurd (h.2 (same_true x y e))
-    go false e = refl
-first_unlike (x ∷ xs) (y ∷ ys) (suc i) l h =
-    let front : x ∷ take i xs ≡ y ∷ take i ys = h.1 in
-    let head : x ≡ y = cc in
-    let tail : take i xs ≡ take i ys = cc in
-    ap₂ (λ b o. cond b (later o) (Some 0)) (same_bytes head) (first_unlike xs ys i (cc) (omega (arith, h.0), tail, h.2))
-
 pub equals : (at : ℕ → Fault) (xs ys : List (List ℕ)) → length xs ≡ length ys → Judged (all_equal at xs ys ∷ []) tt (first_at (unlike xs ys) at)
-equals at xs ys l = firsts (xs ≡ ys) (DifferFirst xs ys) at (unlike xs ys) (unlike_same xs ys) same_unlike (λ i. unlike_first xs ys i l) (λ i. first_unlike xs ys i l)
+equals at xs ys l = firsts (xs ≡ ys) (DifferFirst [] xs ys) at (unlike xs ys) (unlike_same xs ys) same_unlike
+    (λ i. some_first same_row bytes_eq-Decides [] xs ys i l) (λ i. first_some same_row bytes_eq-Decides [] xs ys i l)

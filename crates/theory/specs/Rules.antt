@@ -51,12 +51,13 @@ all_lawful K at es = record {
   broken = λ f. (i : ℕ) × (i < length es) × AllByRecursion (Lawful K) (take i es) × (Lawful K (slice_index_or es i []) → ⊥) × (f ≡ at i);
 }
 
--- two lists of rows are equal; the first difference tells its place
-abbrev pub DifferFirst : (xs ys : List (List ℕ)) → ℕ → Type 0
-DifferFirst xs ys i = (i < length xs) × (take i xs ≡ take i ys) × (slice_index_or xs i [] ≢ slice_index_or ys i [])
+-- two lists differ first at a place; d stands behind their ends
+abbrev pub DifferFirst : {A : Type 0} → (d : A) (xs ys : List A) → ℕ → Type 0
+DifferFirst d xs ys i = (i < length xs) × (take i xs ≡ take i ys) × (slice_index_or xs i d ≢ slice_index_or ys i d)
 
+-- two lists of rows are equal; the first difference tells its place
 abbrev pub all_equal : (ℕ → Fault) → (xs ys : List (List ℕ)) → Rule Fault
-all_equal at xs ys = record { kept = xs ≡ ys; broken = λ f. (i : ℕ) × DifferFirst xs ys i × (f ≡ at i) }
+all_equal at xs ys = record { kept = xs ≡ ys; broken = λ f. (i : ℕ) × DifferFirst [] xs ys i × (f ≡ at i) }
 
 -- the wires of the MU gates, where the first gate writes wire `own`
 abbrev pub product_wires : {E : Type 0} → (own : ℕ) → List (Gate E) → List ℕ
