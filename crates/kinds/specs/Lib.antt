@@ -5,3 +5,4 @@ pub mod Three
 pub mod BitLaws
 pub mod ModularLaws
 pub mod Equal
+pub mod Names

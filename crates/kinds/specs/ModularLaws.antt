@@ -57,7 +57,7 @@ mod_mul_mod : (a n m : ℕ) → (a % m) * n % m ≡ a * n % m
 mod_mul_mod a n m = ap (λ (q : ℕ). q % m) (mul_comm (a % m) n) ∙ mul_mod_mod n a m ∙ ap (λ (q : ℕ). q % m) (mul_comm n a)
 
 module _ (k m : ℕ) (some : 0 < m) (most : m ≤ 4294967296) where
-  lawful_four : (n : ℕ) → n < m → Lawful (modular k m) (four_bytes n)
+  pub lawful_four : (n : ℕ) → n < m → Lawful (modular k m) (four_bytes n)
   lawful_four n h =
       let small : (j : ℕ) → nat_lt (j % 256) 256 ≡ true = λ j. lt-ltb (j % 256) 256 (omega arith) in
       let e : number_of (four_bytes n) ≡ n = number_four n (omega arith) in

@@ -5,7 +5,9 @@ ghost use Rattle.kinds.specs.BitLaws.{bit_laws};
 ghost use Rattle.std.proofs.Common.{rules, arith};
 
 use super::kind::{ElementKind, WrongLength};
+use super::name::KindName;
 
+// A byte and no bool: sums of bools compile to slower code.
 #[derive(Clone, Copy, PartialEq, Eq)]
 pub struct Bit {
     value: u8,
@@ -13,7 +15,7 @@ pub struct Bit {
 }
 
 impl ElementKind for Bit {
-    const NUMBER: u8 = 1;
+    const NUMBER: u8 = KindName::Bit as u8;
 
     const WIDTH: usize = 1;
 
@@ -68,7 +70,7 @@ impl ElementKind for Bit {
         if out.len() != 1 {
             return Err(WrongLength);
         }
-        out[0] = self.value;
+        out.copy_from_slice(&[self.value]);
         Ok(())
     }
 }
