@@ -1,5 +1,5 @@
 -- How an extraction ends, by the first test that fails.
-use Rattle.std.proofs.Common.{◌≡◌, ℕ, ◌+◌, ◌≤◌, eqb, List, length, get_or, IfOk, Ok, Err, Result, sym, refl, ap, ◌∙◌, subst, arith, Option, Some, None}
+use Rattle.std.proofs.Common.{◌≡◌, ℕ, ◌+◌, ◌≤◌, eqb, List, length, get_or, IfOk, Ok, Err, Result, sym, refl, ap, ◌∙◌, subst, Option, Some, None}
 use Rattle.std.specs.List.{AllByRecursion}
 use Rattle.faults.specs.declared.Fault.{Fault}
 use Rattle.faults.specs.declared.Reason.{Reason}
@@ -34,11 +34,11 @@ use Rattle.extractor.specs.Sizes.{sizes_by}
 -- a pick passed, and one that did not
 passed : (e : Option Branch) (v : Verdict) → at_pick e v ≡ Ok tt → v ≡ Ok tt
 passed e (Ok u) h = refl
-passed e (Err f) h = let z : ◌≡◌ {A = ℕ} 0 1 = cc in absurd (omega arith)
+passed e (Err f) h = cc
 
 then_passed : (r : Result (Unit {0}) PickFault) (s : Result (Unit {0}) PickFault) → then_pick r (λ _. s) ≡ Ok tt → (r ≡ Ok tt) × (s ≡ Ok tt)
 then_passed (Ok u) s h = (refl, h)
-then_passed (Err p) s h = let z : ◌≡◌ {A = ℕ} 0 1 = cc in absurd (omega arith)
+then_passed (Err p) s h = cc
 
 -- the definition's chain is ours, with what comes at its end
 chained : (e : Option Branch) (v : Verdict) (x : Result Extracted PickFault) → extract_then e v (λ _. x) ≡ then_pick (at_pick e v) (λ _. x)
@@ -130,10 +130,8 @@ each_right K S l fm an h =
     (passed (Some one) _ a.0, passed (Some two) _ b.0, passed (Some three) _ b.1)
 
 pub at_ok : {A : Type 0} (e : Option Branch) (r : Result A Fault) (a : A) → at_pick e r ≡ Ok a → r ≡ Ok a
-at_ok e (Ok b) a h = ap Ok (same h) where
-  same : {A : Type 0} {x y : A} → ◌≡◌ {A = Result A PickFault} (Ok x) (Ok y) → x ≡ y
-  same h = cc
-at_ok e (Err f) a h = let z : ◌≡◌ {A = ℕ} 0 1 = cc in absurd (omega arith)
+at_ok e (Ok b) a h = cc
+at_ok e (Err f) a h = cc
 
 -- the lock was read and the sizes are right
 pub record Ready (K : Kind) (S : Sealing) (bytes fm : List ℕ) (a : Answers) (work1 work2 : ℕ) (key : List ℕ) (lock : Lock) : Type 0 where

@@ -75,8 +75,8 @@ module _ {E F : Type 0} (f : E → F) where
   module _ (inj : (x y : E) → f x ≡ f y → x ≡ y) where
     pub map_inj : (xs ys : List E) → map f xs ≡ map f ys → xs ≡ ys
     map_inj [] [] h = refl
-    map_inj [] (y ∷ ys) h = cc (ap length h)
-    map_inj (x ∷ xs) [] h = cc (ap length h)
+    map_inj [] (y ∷ ys) h = cc
+    map_inj (x ∷ xs) [] h = cc
     map_inj (x ∷ xs) (y ∷ ys) h =
         let p : f x ≡ f y = cc in
         let q : map f xs ≡ map f ys = cc in
