@@ -1,5 +1,5 @@
 // A group of lawful elements in lent bytes, one behind the other: contracts see their rows.
-ghost use Rattle.std.specs.Prelude.{◌≡◌, ◌+◌, ◌^◌, ◌<◌, ◌≤◌, length, IfOk};
+ghost use Rattle.std.specs.Prelude.{◌≡◌, ℕ, ◌+◌, ◌^◌, ◌<◌, ◌≤◌, length, IfOk};
 ghost use Rattle.std.specs.List.{AllByRecursion};
 ghost use Rattle.faults.specs.Outcomes.{map_ok};
 ghost use Rattle.kinds.specs.Kind.{Lawful};
@@ -10,7 +10,7 @@ ghost use Rattle.theory.specs.Groups.{group, group_bytes};
 ghost use Rattle.theory.specs.Tests.{unlawful, lawful_at};
 ghost use Rattle.branches.specs.Holding.{unless};
 
-use crate::groups::{element, element_at, first_unlawful, group_length};
+use crate::groups::{element, element_at, first_unlawful, group_length, put_element};
 use crate::rows::lawful_row;
 use faults::{Fault, Reason};
 use kinds::kind::ElementKind;
@@ -119,6 +119,17 @@ impl<'g, 'a, K: ElementKind> IntoIterator for &'g Group<'a, K> {
 
     fn into_iter(self) -> Elements<'a, K> {
         self.elements()
+    }
+}
+
+// Fills the bytes with n elements, each made of its number.
+pub fn write_group<K: ElementKind, F: Fn(usize) -> K>(bytes: &mut [u8], n: usize, element: F)
+    requires sized { length bytes.old ≡ group_length K.kind n }
+    requires can { (i : ℕ) → i < n → F.pre element i }
+    ensures { (i : ℕ) → i < n → (x : _) × F.post element i x × (read (ops_of K.kind) (group K.kind n bytes.new) i ≡ K.ElementKind.row x) }
+{
+    for i in 0..n {
+        put_element(bytes, n, i, element(i));
     }
 }
 

@@ -55,6 +55,7 @@ impl<'a, K: ElementKind> OpenLock<'a, K> {
     pub fn gates(&self) -> Gates<'a, K>
         ensures gates { result ≡ self.now.gates }
         ensures fit { GatesFor K.kind self.now.inputs self.now.gates }
+        ensures few { length self.now.gates ≤ 200000 }
     {
         Gates {
             reader: self.lock.reader(),
@@ -66,6 +67,7 @@ impl<'a, K: ElementKind> OpenLock<'a, K> {
     pub fn outputs(&self) -> Outputs<'a, K>
         ensures outputs { result ≡ self.now.outputs }
         ensures fit { AllByRecursion (OutputFor K.kind (self.now.inputs + length self.now.gates)) self.now.outputs }
+        ensures few { length self.now.outputs ≤ 1024 }
     {
         Outputs {
             reader: outputs_reader::<K>(self.lock),
