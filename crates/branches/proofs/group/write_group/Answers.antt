@@ -15,9 +15,9 @@ loop-i-preserved g c =
     let new = c.put_element.new.bytes in
     let P : ℕ → Type 0 = λ k. (x : g.row.K.Denot) × g.F.Fn.post c.args.element (k, tt) x × (read (ops_of g.K.ElementKind.kind) (group g.K.ElementKind.kind c.args.n c.put_element.new.bytes) k ≡ g.K.ElementKind.row x) in
     let before : (k : ℕ) → k < c.loop-i.i → P k = λ k lt.
-        let h = c.loop-i.invariant k lt in
-        let other : k ≢ c.loop-i.i = λ e. omega (arith, e) in
-        (h.0, h.1, element_kept kind n i row bs new c.put_element.ensures.put k other ∙ h.2) in
+    let h = c.loop-i.invariant k lt in
+    let other : k ≢ c.loop-i.i = λ e. omega (arith, e) in
+    (h.0, h.1, element_kept kind n i row bs new c.put_element.ensures.put k other ∙ h.2) in
     one_more P i before (c.element.result, c.element.ensures, element_put kind n i row bs new c.put_element.ensures.put c.loop-i-test.true)
 
 pub returns : goal.returns

@@ -7,7 +7,7 @@ invariant_of-result g c =
     let laws = g.met.K.ElementKind.laws in
     let bytes = c.bytes-bytes.result.now in
     let fit = copied_fit kind laws c.args.shares.now c.len.result c.args.most c.args.work.now bytes c.copy_from_slice.new.self c.len.ensures.lawful c.len.ensures.count
-        c.bytes-bytes.ensures.bytes c.copy_from_slice.ensures.after c.requires.few c.requires.room c.bytes-bytes.ensures.sized in
+    c.bytes-bytes.ensures.bytes c.copy_from_slice.ensures.after c.requires.few c.requires.room c.bytes-bytes.ensures.sized in
     copied_fills kind laws c.args.shares.now c.len.result c.args.most c.args.work.now bytes c.copy_from_slice.new.self c.len.ensures.lawful c.len.ensures.count
     c.bytes-bytes.ensures.bytes c.copy_from_slice.ensures.after c.requires.few c.requires.room fit
 
