@@ -15,7 +15,7 @@ use std::alloc::{AllocError, Global};
 use std::process::Abort;
 use std::test::Fail;
 use theory::Extracted;
-use toy_seals::{Short, Wide};
+use toy_seals::{SHORT, Short, WIDE, Wide};
 use verifier::verify::verify;
 
 // One round on a keeper of its own, answered at a pick and verified; the answer comes back in its buffer.
@@ -119,10 +119,10 @@ fn short_and_long_seals(rt: HostRuntime) -> Result<(), Fail> {
     let numbers = numbers.as_slice();
     let bits = bit_tape(heap, 9)?;
     let bits = bits.as_slice();
-    assert!(rt; plays::<Word, Short>(heap, &Short, &WORDS, &KEY, numbers, 17, 99)?);
-    assert!(rt; plays::<Residue, Wide>(heap, &Wide, &RESIDUES, &KEY, numbers, 206, 99)?);
-    assert!(rt; plays::<Bit, Short>(heap, &Short, &BITS, &[1, 1], bits, 8, 75)?);
-    assert!(rt; plays::<Bit, Wide>(heap, &Wide, &BITS, &[1, 1], bits, 197, 75)?);
+    assert!(rt; plays::<Word, Short>(heap, &SHORT, &WORDS, &KEY, numbers, 17, 99)?);
+    assert!(rt; plays::<Residue, Wide>(heap, &WIDE, &RESIDUES, &KEY, numbers, 206, 99)?);
+    assert!(rt; plays::<Bit, Short>(heap, &SHORT, &BITS, &[1, 1], bits, 8, 75)?);
+    assert!(rt; plays::<Bit, Wide>(heap, &WIDE, &BITS, &[1, 1], bits, 197, 75)?);
     Ok(())
 }
 

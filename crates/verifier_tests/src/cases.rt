@@ -12,7 +12,7 @@ use sha3::Sha3_256;
 use std::alloc::Global;
 use std::process::Abort;
 use std::test::Fail;
-use toy_seals::{Short, Wide};
+use toy_seals::{SHORT, WIDE};
 use verifier::verify::verify;
 
 // The verdict, with work slices that are zero afterwards.
@@ -64,8 +64,8 @@ fn the_worked_example(rt: HostRuntime) -> Result<(), Fail> {
     let accepted = [Ok(()), Ok(()), Ok(())];
     verdicts(&rt, rt.alloc(), &Sha256, &WORDS, HONEST, accepted)?;
     verdicts(&rt, rt.alloc(), &Sha3_256, &WORDS, HONEST, accepted)?;
-    verdicts(&rt, rt.alloc(), &Short, &WORDS, HONEST, accepted)?;
-    verdicts(&rt, rt.alloc(), &Wide, &WORDS, HONEST, accepted)
+    verdicts(&rt, rt.alloc(), &SHORT, &WORDS, HONEST, accepted)?;
+    verdicts(&rt, rt.alloc(), &WIDE, &WORDS, HONEST, accepted)
 }
 
 // The forged product is told where its branch is the picked one, and nowhere else.
@@ -192,8 +192,8 @@ fn sizes_and_the_pick(rt: HostRuntime) -> Result<(), Fail> {
     let first = first(heap, &Sha256, HONEST)?;
     let answer = answer(heap, HONEST, 1)?;
     let (fm, an) = (first.as_slice(), answer.as_slice());
-    assert!(rt; judged(&rt, &Short, &FIVE, an, 0, fm) == told(Reason::WrongSize, 0, 0));
-    assert!(rt; judged(&rt, &Wide, &FIVE, an, 0, fm) == told(Reason::WrongSize, 0, 1));
+    assert!(rt; judged(&rt, &SHORT, &FIVE, an, 0, fm) == told(Reason::WrongSize, 0, 0));
+    assert!(rt; judged(&rt, &WIDE, &FIVE, an, 0, fm) == told(Reason::WrongSize, 0, 1));
     assert!(rt; with_work(&rt, heap, an, 0, fm, 15, 15)? == told(Reason::WrongSize, 0, 1));
     assert!(rt; with_work(&rt, heap, fm, 0, fm, 15, 15)? == told(Reason::WrongSize, 0, 2));
     assert!(rt; with_work(&rt, heap, fm, 0, an, 15, 15)? == told(Reason::WrongSize, 0, 3));
@@ -298,7 +298,7 @@ fn damage_behind_the_seals(rt: HostRuntime) -> Result<(), Fail> {
         (95, told(Reason::WrongOutputShare, 2, 0)),
         (98, told(Reason::WrongSeal, 2, 0)),
     ] {
-        assert!(rt; answer_turned(&rt, rt.alloc(), &Short, offset)? == verdict);
+        assert!(rt; answer_turned(&rt, rt.alloc(), &SHORT, offset)? == verdict);
     }
     Ok(())
 }

@@ -9,7 +9,7 @@ use sha3::Sha3_256;
 use std::alloc::Global;
 use std::process::Abort;
 use std::test::Fail;
-use toy_seals::{Short, Wide};
+use toy_seals::{SHORT, WIDE};
 
 // The tape of the messages made by hand: the blinds of the branches are ones, twos and threes.
 fn hand_tape(heap: Global) -> Result<Vec<u8>, Fail> {
@@ -59,8 +59,8 @@ fn worked_to_the_byte(rt: HostRuntime) -> Result<(), Fail> {
     for pick in 1..4 {
         worked(&rt, heap, &Sha256, pick, 110)?;
         worked(&rt, heap, &Sha3_256, pick, 110)?;
-        worked(&rt, heap, &Short, pick, 17)?;
-        worked(&rt, heap, &Wide, pick, 206)?;
+        worked(&rt, heap, &SHORT, pick, 17)?;
+        worked(&rt, heap, &WIDE, pick, 206)?;
     }
     Ok(())
 }

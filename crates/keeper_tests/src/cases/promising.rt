@@ -13,7 +13,7 @@ use sha2_256::Sha256;
 use std::alloc::Global;
 use std::process::Abort;
 use std::test::Fail;
-use toy_seals::Short;
+use toy_seals::{SHORT, Short};
 
 // No row of it is a residue.
 const UNLAWFUL: [u8; 124] = [0xff; 124];
@@ -113,7 +113,7 @@ fn locks_that_do_not_read(rt: HostRuntime) -> Result<(), Fail> {
     assert!(rt; words(&rt, heap, &OTHER_MARK, &[], WRONG)? == told(Reason::WrongMark, 15));
     assert!(rt; words(&rt, heap, &RESIDUES, &[], WRONG)? == told(Reason::OutsideLimits, 2));
     assert!(rt; words(&rt, heap, &OWN_WIRE, &[], WRONG)? == told(Reason::WireTooHigh, 21));
-    let no_residue = outcome::<Residue, Short>(&rt, heap, &Short, &NO_RESIDUE, &[], &[], WRONG)?;
+    let no_residue = outcome::<Residue, Short>(&rt, heap, &SHORT, &NO_RESIDUE, &[], &[], WRONG)?;
     assert!(rt; no_residue == told(Reason::UnlawfulConstant, 31));
     assert!(rt; words(&rt, heap, &ONE_MORE, &[], WRONG)? == told(Reason::TrailingBytes, 45));
     Ok(())
@@ -164,7 +164,7 @@ fn wrong_sizes(rt: HostRuntime) -> Result<(), Fail> {
 #[test]
 fn sizes_in_order(rt: HostRuntime) -> Result<(), Fail> {
     let heap = rt.alloc();
-    let long = outcome::<Word, Short>(&rt, heap, &Short, &FIVE, &[], &[], WRONG)?;
+    let long = outcome::<Word, Short>(&rt, heap, &SHORT, &FIVE, &[], &[], WRONG)?;
     assert!(rt; long == told(Reason::WrongSize, 0));
     assert!(rt; residues(&rt, heap, &[], &[], WRONG)? == told(Reason::WrongSize, 1));
     assert!(rt; residues(&rt, heap, &UNLAWFUL[..8], &[], WRONG)? == told(Reason::WrongSize, 2));
