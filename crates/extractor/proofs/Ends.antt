@@ -5,7 +5,7 @@ use Rattle.faults.specs.declared.Fault.{Fault}
 use Rattle.faults.specs.declared.Reason.{Reason}
 use Rattle.faults.specs.Numbers.{fault}
 use Rattle.std.proofs.lemmas.Bool.{leb-true, eqb-true}
-use Rattle.faults.specs.Outcomes.{check, map_ok}
+use Rattle.faults.specs.Outcomes.{check, and_then, map_ok}
 use Rattle.faults.proofs.Passed.{check_ok}
 use Rattle.kinds.specs.Kind.{Kind, Lawful}
 use Rattle.locks.specs.Circuit.{Circuit}
@@ -23,9 +23,9 @@ use Rattle.theory.specs.Runs.{View}
 use Rattle.theory.specs.Messages.{view_of, picked_view, next_view, pick_byte, length_of_view, shares_at, masks_at, products_at}
 use Rattle.theory.specs.Tests.{Verdict, both, lawful_at}
 use Rattle.theory.specs.Verdict.{first_formed, view_formed, answer_formed, figure_holds, messages_right}
-use Rattle.theory.specs.Extraction.{beside, extract_then, extract_sizes, compared, key_from, key_left, key_after, extracted, read_circuit}
+use Rattle.theory.specs.Extraction.{beside, at_pick, extract_sizes, compared, key_from, key_left, key_after, extracted, read_circuit}
 use Rattle.theory.proofs.Checked.{both_ok, group_ok}
-use Rattle.extractor.specs.Picks.{at_pick, then_pick, all_right}
+use Rattle.extractor.specs.Picks.{all_right}
 use Rattle.branches.specs.Walks.{circuit_of, Stands}
 use Rattle.extractor.specs.declared.answers.Answers.{Answers}
 use Rattle.extractor.specs.Answers.{answers_of, Sized, key_written}
@@ -36,16 +36,12 @@ passed : (e : Option Branch) (v : Verdict) → at_pick e v ≡ Ok tt → v ≡ O
 passed e (Ok u) h = refl
 passed e (Err f) h = cc
 
-then_passed : (r : Result (Unit {0}) PickFault) (s : Result (Unit {0}) PickFault) → then_pick r (λ _. s) ≡ Ok tt → (r ≡ Ok tt) × (s ≡ Ok tt)
+then_passed : (r : Result (Unit {0}) PickFault) (s : Result (Unit {0}) PickFault) → and_then r (λ _. s) ≡ Ok tt → (r ≡ Ok tt) × (s ≡ Ok tt)
 then_passed (Ok u) s h = (refl, h)
 then_passed (Err p) s h = cc
 
--- the definition's chain is ours, with what comes at its end
-chained : (e : Option Branch) (v : Verdict) (x : Result Extracted PickFault) → extract_then e v (λ _. x) ≡ then_pick (at_pick e v) (λ _. x)
-chained e (Ok u) x = refl
-chained e (Err f) x = refl
-
-turned : (a b c : Result (Unit {0}) PickFault) (x : Result Extracted PickFault) → then_pick a (λ _. then_pick b (λ _. then_pick c (λ _. x))) ≡ then_pick (then_pick a (λ _. then_pick b (λ _. c))) (λ _. x)
+-- what comes at the end of a chain
+turned : (a b c : Result (Unit {0}) PickFault) (x : Result Extracted PickFault) → and_then a (λ _. and_then b (λ _. and_then c (λ _. x))) ≡ and_then (and_then a (λ _. and_then b (λ _. c))) (λ _. x)
 turned (Ok u) (Ok v) c x = refl
 turned (Ok u) (Err p) c x = refl
 turned (Err p) b c x = refl
@@ -62,40 +58,37 @@ module _ (K : Kind) (S : Sealing) (lock fm : List ℕ) (an : Branch → List ℕ
   key_stays p h = sym (ap (λ r. key_left r (group_bytes K (key_from K S (read_circuit (lock_of K lock)) an)) key) h)
 
   pub lock_refused : (f : Fault) → lock_of K lock ≡ Err f → whole ≡ Err (beside None f)
-  lock_refused f h = ap (λ r. extract_then None r (λ l. extract_then None (extract_sizes K S l (length fm) (length (an one)) (length (an two)) (length (an three)) work1 work2 (length key)) (λ _.
-      extract_then (Some one) (messages_right K S l fm one (an one)) (λ _. extract_then (Some two) (messages_right K S l fm two (an two)) (λ _. extract_then (Some three) (messages_right K S l fm three (an three)) (λ _. Ok (compared K S l an))))))) h
+  lock_refused f h = ap (λ r. and_then (at_pick None r) (λ l. and_then (at_pick None (extract_sizes K S l (length fm) (length (an one)) (length (an two)) (length (an three)) work1 work2 (length key))) (λ _.
+      and_then (at_pick (Some one) (messages_right K S l fm one (an one))) (λ _. and_then (at_pick (Some two) (messages_right K S l fm two (an two))) (λ _. and_then (at_pick (Some three) (messages_right K S l fm three (an three))) (λ _. Ok (compared K S l an))))))) h
 
   module _ (l : Circuit (List ℕ)) (read : lock_of K lock ≡ Ok l) where
     abbrev sizes : Verdict
     sizes = extract_sizes K S l (length fm) (length (an one)) (length (an two)) (length (an three)) work1 work2 (length key)
 
-    behind_lock : whole ≡ extract_then None sizes (λ _.
-        extract_then (Some one) (messages_right K S l fm one (an one)) (λ _. extract_then (Some two) (messages_right K S l fm two (an two)) (λ _. extract_then (Some three) (messages_right K S l fm three (an three)) (λ _. Ok (compared K S l an)))))
-    behind_lock = ap (λ r. extract_then None r (λ l. extract_then None (extract_sizes K S l (length fm) (length (an one)) (length (an two)) (length (an three)) work1 work2 (length key)) (λ _.
-        extract_then (Some one) (messages_right K S l fm one (an one)) (λ _. extract_then (Some two) (messages_right K S l fm two (an two)) (λ _. extract_then (Some three) (messages_right K S l fm three (an three)) (λ _. Ok (compared K S l an))))))) read
+    behind_lock : whole ≡ and_then (at_pick None sizes) (λ _.
+        and_then (at_pick (Some one) (messages_right K S l fm one (an one))) (λ _. and_then (at_pick (Some two) (messages_right K S l fm two (an two))) (λ _. and_then (at_pick (Some three) (messages_right K S l fm three (an three))) (λ _. Ok (compared K S l an)))))
+    behind_lock = ap (λ r. and_then (at_pick None r) (λ l. and_then (at_pick None (extract_sizes K S l (length fm) (length (an one)) (length (an two)) (length (an three)) work1 work2 (length key))) (λ _.
+        and_then (at_pick (Some one) (messages_right K S l fm one (an one))) (λ _. and_then (at_pick (Some two) (messages_right K S l fm two (an two))) (λ _. and_then (at_pick (Some three) (messages_right K S l fm three (an three))) (λ _. Ok (compared K S l an))))))) read
 
     pub sizes_refused : (f : Fault) → sizes ≡ Err f → whole ≡ Err (beside None f)
-    sizes_refused f h = behind_lock ∙ ap (λ r. extract_then None r (λ _.
-        extract_then (Some one) (messages_right K S l fm one (an one)) (λ _. extract_then (Some two) (messages_right K S l fm two (an two)) (λ _. extract_then (Some three) (messages_right K S l fm three (an three)) (λ _. Ok (compared K S l an)))))) h
+    sizes_refused f h = behind_lock ∙ ap (λ r. and_then (at_pick None r) (λ _.
+        and_then (at_pick (Some one) (messages_right K S l fm one (an one))) (λ _. and_then (at_pick (Some two) (messages_right K S l fm two (an two))) (λ _. and_then (at_pick (Some three) (messages_right K S l fm three (an three))) (λ _. Ok (compared K S l an)))))) h
 
-    behind_sizes : sizes ≡ Ok tt → whole ≡ then_pick (all_right K S l fm an) (λ _. Ok (compared K S l an))
+    behind_sizes : sizes ≡ Ok tt → whole ≡ and_then (all_right K S l fm an) (λ _. Ok (compared K S l an))
     behind_sizes h =
         let m1 = messages_right K S l fm one (an one) in
         let m2 = messages_right K S l fm two (an two) in
         let m3 = messages_right K S l fm three (an three) in
         let x : Result Extracted PickFault = Ok (compared K S l an) in
         behind_lock
-        ∙ ap (λ r. extract_then None r (λ _. extract_then (Some one) m1 (λ _. extract_then (Some two) m2 (λ _. extract_then (Some three) m3 (λ _. x))))) h
-        ∙ ap (λ r. extract_then (Some one) m1 (λ _. extract_then (Some two) m2 (λ _. r))) (chained (Some three) m3 x)
-        ∙ ap (λ r. extract_then (Some one) m1 (λ _. r)) (chained (Some two) m2 (then_pick (at_pick (Some three) m3) (λ _. x)))
-        ∙ chained (Some one) m1 (then_pick (at_pick (Some two) m2) (λ _. then_pick (at_pick (Some three) m3) (λ _. x)))
+        ∙ ap (λ r. and_then (at_pick None r) (λ _. and_then (at_pick (Some one) m1) (λ _. and_then (at_pick (Some two) m2) (λ _. and_then (at_pick (Some three) m3) (λ _. x))))) h
         ∙ turned (at_pick (Some one) m1) (at_pick (Some two) m2) (at_pick (Some three) m3) x
 
     pub answers_refused : (p : PickFault) → sizes ≡ Ok tt → all_right K S l fm an ≡ Err p → whole ≡ Err p
-    answers_refused p h e = behind_sizes h ∙ ap (λ r. then_pick r (λ _. Ok (compared K S l an))) e
+    answers_refused p h e = behind_sizes h ∙ ap (λ r. and_then r (λ _. Ok (compared K S l an))) e
 
     pub all_accepted : sizes ≡ Ok tt → all_right K S l fm an ≡ Ok tt → whole ≡ Ok (compared K S l an)
-    all_accepted h e = behind_sizes h ∙ ap (λ r. then_pick r (λ _. Ok (compared K S l an))) e
+    all_accepted h e = behind_sizes h ∙ ap (λ r. and_then r (λ _. Ok (compared K S l an))) e
 
     written : (x : Extracted) → key_written x (group_bytes K (key_from K S l an)) key ≡ key_left (Ok x) (group_bytes K (key_from K S l an)) key
     written Extracted.Key = refl

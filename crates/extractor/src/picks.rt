@@ -1,6 +1,6 @@
 // A fault beside the pick that it speaks of, if any.
 ghost use Rattle.std.specs.Prelude.{◌≡◌};
-ghost use Rattle.extractor.specs.Picks.{at_pick};
+ghost use Rattle.theory.specs.Extraction.{at_pick};
 
 use faults::{Branch, Fault};
 use theory::PickFault;

@@ -19,7 +19,7 @@ use Rattle.theory.specs.Groups.{element_at}
 use Rattle.theory.specs.Messages.{pick_byte, branch_of, view_of, length_of_view, shares_at, masks_at, products_at, outs_at, outs_in, picked_view, next_view, key_of, tape_of, tape_shares_at, tape_masks_at}
 use Rattle.theory.specs.Tests.{both, first_at, lawful_at, unlike}
 use Rattle.theory.specs.Verdict.{picked, wrong_product, verify_sizes, first_formed, view_formed, answer_formed, figure_holds, messages_right}
-use Rattle.theory.specs.Extraction.{extract_then, extract_sizes, compared}
+use Rattle.theory.specs.Extraction.{at_pick, extract_sizes, compared}
 use Rattle.theory.specs.Keeper.{Keeper, Given, promise_sizes, key_right, tape_right, promise_result, state_of, open_by}
 use Rattle.theory.specs.Rules.{Rule, Judged, must, all_equal, product_wires, IsPick, verify_size_rules, group_rule, view_rules, message_rules, extract_size_rules, beside_pick, promise_rules, RulesLaw}
 use Rattle.theory.proofs.Checked.{same_bytes, wire_of, wrong_is}
@@ -193,8 +193,8 @@ pub rules_law : RulesLaw
 rules_law = record {
   lock_first = λ K S lock f h. (
     (λ fm pick an work1 work2. ap (λ R. and_then R (λ l. both (verify_sizes K S l (length fm) (length an) work1 work2) (and_then (picked pick) (λ e. messages_right K S l fm e an)))) h),
-    (λ fm an work1 work2 key. ap (λ R. extract_then None R (λ l. extract_then None (extract_sizes K S l (length fm) (length (an one)) (length (an two)) (length (an three)) work1 work2 key) (λ _.
-        extract_then (Some one) (messages_right K S l fm one (an one)) (λ _. extract_then (Some two) (messages_right K S l fm two (an two)) (λ _. extract_then (Some three) (messages_right K S l fm three (an three)) (λ _. Ok (compared K S l an))))))) h),
+    (λ fm an work1 work2 key. ap (λ R. and_then (at_pick None R) (λ l. and_then (at_pick None (extract_sizes K S l (length fm) (length (an one)) (length (an two)) (length (an three)) work1 work2 key)) (λ _.
+        and_then (at_pick (Some one) (messages_right K S l fm one (an one))) (λ _. and_then (at_pick (Some two) (messages_right K S l fm two (an two))) (λ _. and_then (at_pick (Some three) (messages_right K S l fm three (an three))) (λ _. Ok (compared K S l an))))))) h),
     (λ k g a b. ap (λ R. and_then R (λ l. and_then (promise_sizes g l) (λ _.
         check (eqb (length_of_view g.kind l) k.view_size) (fault Reason.WrongSize 7) (check (ltb (length k.table) k.capacity) (fault Reason.KeeperFull k.capacity)
         (and_then (key_right g.kind l (key_of g.kind l g.key)) (λ _. and_then (tape_right g.kind l (tape_of g.kind l g.tape)) (λ _. Ok (suc (length k.table)))))))))
@@ -214,8 +214,8 @@ rules_law = record {
       subst (λ R. Judged (beside_pick None (extract_size_rules K S l (length fm) (length (an one)) (length (an two)) (length (an three)) work1 work2 key)
       ++ (beside_pick (Some one) (message_rules K S l fm one (an one)) ++ (beside_pick (Some two) (message_rules K S l fm two (an two)) ++ beside_pick (Some three) (message_rules K S l fm three (an three)))))
       (compared K S l an)
-      (extract_then None R (λ l. extract_then None (extract_sizes K S l (length fm) (length (an one)) (length (an two)) (length (an three)) work1 work2 key) (λ _.
-      extract_then (Some one) (messages_right K S l fm one (an one)) (λ _. extract_then (Some two) (messages_right K S l fm two (an two)) (λ _. extract_then (Some three) (messages_right K S l fm three (an three)) (λ _. Ok (compared K S l an)))))))) (sym reads)
+      (and_then (at_pick None R) (λ l. and_then (at_pick None (extract_sizes K S l (length fm) (length (an one)) (length (an two)) (length (an three)) work1 work2 key)) (λ _.
+      and_then (at_pick (Some one) (messages_right K S l fm one (an one))) (λ _. and_then (at_pick (Some two) (messages_right K S l fm two (an two))) (λ _. and_then (at_pick (Some three) (messages_right K S l fm three (an three))) (λ _. Ok (compared K S l an)))))))) (sym reads)
       (beside_joined None _ _ _ (compared K S l an) _ (extract_judged K S l (length fm) (length (an one)) (length (an two)) (length (an three)) work1 work2 key)
       (beside_joined (Some one) _ _ _ (compared K S l an) _ (messages_judged K S l fm one (an one))
       (beside_joined (Some two) _ _ _ (compared K S l an) _ (messages_judged K S l fm two (an two))

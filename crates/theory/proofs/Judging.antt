@@ -8,7 +8,7 @@ use Rattle.theory.specs.Tests.{Verdict, first_at, later, unlawful, unlike}
 use Rattle.faults.specs.declared.Branch.{Branch}
 use Rattle.theory.specs.declared.Extracted.{Extracted}
 use Rattle.theory.specs.declared.PickFault.{PickFault}
-use Rattle.theory.specs.Extraction.{beside, extract_then}
+use Rattle.theory.specs.Extraction.{beside, at_pick}
 use Rattle.theory.specs.Rules.{Rule, AllKept, FirstBroken, Judged, must, all_lawful, all_equal, DifferFirst, beside_pick}
 use Rattle.theory.proofs.Unlikes.{some_first, first_some}
 use Rattle.std.proofs.lemmas.Slice.Eq.{bytes_eq-Decides}
@@ -34,10 +34,6 @@ tested P false f to from rs a v j = record {
 }
 
 -- one test after another
-abbrev pub seq : {A F : Type 0} → Result (Unit {0}) F → Result A F → Result A F
-seq (Ok u) w = w
-seq (Err f) w = Err f
-
 module _ {F : Type 0} (ss : List (Rule F)) where
   to_left : (rs : List (Rule F)) (f : F) → FirstBroken rs f → FirstBroken (rs ++ ss) f
   to_left [] f h = absurd h
@@ -61,32 +57,21 @@ module _ {F : Type 0} (ss : List (Rule F)) where
   each_kept [] h = (tt, h)
   each_kept (r ∷ rs) h = let q = each_kept rs h.1 in ((h.0, q.0), q.1)
 
-pub in_turn : {A F : Type 0} (rs ss : List (Rule F)) (v : Result (Unit {0}) F) (a : A) (w : Result A F) → Judged rs tt v → Judged ss a w → Judged (rs ++ ss) a (seq v w)
-in_turn rs ss (Ok u) a w j k = record {
+pub joined : {A F : Type 0} (rs ss : List (Rule F)) (v : Result (Unit {0}) F) (a : A) (w : Result A F) → Judged rs tt v → Judged ss a w → Judged (rs ++ ss) a (and_then v (λ _. w))
+joined rs ss (Ok u) a w j k = record {
   accepts = λ h. both_kept ss rs (j.accepts refl) (k.accepts h);
   accepted = λ h. k.accepted (each_kept ss rs h).1;
   refuses = λ f h. to_right ss rs f (j.accepts refl) (k.refuses f h);
   refused = λ f h. elim (either ss rs f h) [ inl x ↦ (cc (j.refused f x)) | inr x ↦ k.refused f x.1 ];
 }
-in_turn rs ss (Err g) a w j k = record {
+joined rs ss (Err g) a w j k = record {
   accepts = λ h. cc;
   accepted = λ h. cc (j.accepted (each_kept ss rs h).0);
   refuses = λ f h. to_left ss rs f (j.refuses f cc);
   refused = λ f h. elim (either ss rs f h) [ inl x ↦ ap Err (cc (j.refused f x)) | inr x ↦ (cc (j.accepted x.0)) ];
 }
 
-then_seq : {A : Type 0} (v : Verdict) (w : Result A Fault) → seq v w ≡ and_then v (λ _. w)
-then_seq (Ok u) w = refl
-then_seq (Err f) w = refl
-
-pub joined : {A : Type 0} (rs ss : List (Rule Fault)) (v : Verdict) (a : A) (w : Result A Fault) → Judged rs tt v → Judged ss a w → Judged (rs ++ ss) a (and_then v (λ _. w))
-joined rs ss v a w j k = subst (Judged (rs ++ ss) a) (then_seq v w) (in_turn rs ss v a w j k)
-
 -- a fault beside its pick
-abbrev tagged : Option Branch → Verdict → Result (Unit {0}) PickFault
-tagged e (Ok u) = Ok u
-tagged e (Err f) = Err (beside e f)
-
 kept_beside : (e : Option Branch) (rs : List (Rule Fault)) → AllKept rs → AllKept (beside_pick e rs)
 kept_beside e [] h = tt
 kept_beside e (r ∷ rs) h = (h.0, kept_beside e rs h.1)
@@ -105,27 +90,23 @@ beside_broken e [] x h = absurd h
 beside_broken e (r ∷ rs) x (inl y) = (y.0, inl y.1, y.2)
 beside_broken e (r ∷ rs) x (inr y) = let q = beside_broken e rs x y.1 in (q.0, inr (y.0, q.1), q.2)
 
-tagged_judged : (e : Option Branch) (rs : List (Rule Fault)) (v : Verdict) → Judged rs tt v → Judged (beside_pick e rs) tt (tagged e v)
-tagged_judged e rs (Ok u) j = record {
+judged_beside : (e : Option Branch) (rs : List (Rule Fault)) (v : Verdict) → Judged rs tt v → Judged (beside_pick e rs) tt (at_pick e v)
+judged_beside e rs (Ok u) j = record {
   accepts = λ h. kept_beside e rs (j.accepts refl);
   accepted = λ h. refl;
   refuses = λ x h. cc;
   refused = λ x h. cc (j.refused (beside_broken e rs x h).0 (beside_broken e rs x h).1);
 }
-tagged_judged e rs (Err g) j = record {
+judged_beside e rs (Err g) j = record {
   accepts = λ h. cc;
   accepted = λ h. cc (j.accepted (beside_kept e rs h));
   refuses = λ x h. subst (FirstBroken (beside_pick e rs)) (cc) (broken_beside e rs g (j.refuses g refl));
   refused = λ x h. let q = beside_broken e rs x h in ap (λ f. Err (beside e f)) (cc (j.refused q.0 q.1)) ∙ ap Err (sym q.2);
 }
 
-tag_seq : (e : Option Branch) (v : Verdict) (w : Result Extracted PickFault) → seq (tagged e v) w ≡ extract_then e v (λ _. w)
-tag_seq e (Ok u) w = refl
-tag_seq e (Err f) w = refl
-
 pub beside_joined : (e : Option Branch) (rs : List (Rule Fault)) (ss : List (Rule PickFault)) (v : Verdict) (a : Extracted) (w : Result Extracted PickFault)
-    → Judged rs tt v → Judged ss a w → Judged (beside_pick e rs ++ ss) a (extract_then e v (λ _. w))
-beside_joined e rs ss v a w j k = subst (Judged (beside_pick e rs ++ ss) a) (tag_seq e v w) (in_turn (beside_pick e rs) ss (tagged e v) a w (tagged_judged e rs v j) k)
+    → Judged rs tt v → Judged ss a w → Judged (beside_pick e rs ++ ss) a (and_then (at_pick e v) (λ _. w))
+beside_joined e rs ss v a w j k = joined (beside_pick e rs) ss (at_pick e v) a w (judged_beside e rs v j) k
 
 -- the first wrong one of many
 pub firsts : (P : Type 0) (B : ℕ → Type 0) (at : ℕ → Fault) (o : Option ℕ) → (o ≡ None → P) → (P → o ≡ None) → ((i : ℕ) → o ≡ Some i → B i) → ((i : ℕ) → B i → o ≡ Some i)

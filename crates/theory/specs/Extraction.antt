@@ -3,7 +3,7 @@ use Rattle.std.specs.Prelude.{ℕ, List, [], length, Some, None, Ok, Err, Option
 use Rattle.faults.specs.declared.Fault.{Fault}
 use Rattle.faults.specs.declared.Reason.{Reason}
 use Rattle.faults.specs.Numbers.{fault}
-use Rattle.faults.specs.Outcomes.{check}
+use Rattle.faults.specs.Outcomes.{check, and_then}
 use Rattle.kinds.specs.Kind.{Kind}
 use Rattle.locks.specs.Circuit.{Circuit}
 use Rattle.locks.specs.Reading.{lock_of}
@@ -32,9 +32,9 @@ read_circuit (Err f) = record { inputs = 0; gates = []; outputs = [] }
 abbrev pub beside : Option Branch → Fault → PickFault
 beside e f = record { pick = e; fault = f }
 
-abbrev pub extract_then : {A : Type 0} → (pick : Option Branch) → Result A Fault → (A → Result Extracted PickFault) → Result Extracted PickFault
-extract_then e (Ok a) x = x a
-extract_then e (Err f) x = Err (beside e f)
+abbrev pub at_pick : {A : Type 0} → (pick : Option Branch) → Result A Fault → Result A PickFault
+at_pick e (Ok a) = Ok a
+at_pick e (Err f) = Err (beside e f)
 
 -- the first differing offset of branch b's copies, or what comes after
 abbrev pub or_collision : Option ℕ → Branch → Extracted → Extracted
@@ -75,11 +75,11 @@ module _ (K : Kind) (S : Sealing) (l : Circuit (List ℕ)) where
 -- answers to picks 1, 2, 3; `work1`, `work2` and `key` are lengths
 abbrev pub extracted : Kind → Sealing → (lock fm : List ℕ) (an : Branch → List ℕ) (work1 work2 key : ℕ) → Result Extracted PickFault
 extracted K S lock fm an work1 work2 key =
-    extract_then None (lock_of K lock) (λ l.
-    extract_then None (extract_sizes K S l (length fm) (length (an one)) (length (an two)) (length (an three)) work1 work2 key) (λ _.
-    extract_then (Some one) (messages_right K S l fm one (an one)) (λ _.
-    extract_then (Some two) (messages_right K S l fm two (an two)) (λ _.
-    extract_then (Some three) (messages_right K S l fm three (an three)) (λ _.
+    and_then (at_pick None (lock_of K lock)) (λ l.
+    and_then (at_pick None (extract_sizes K S l (length fm) (length (an one)) (length (an two)) (length (an three)) work1 work2 key)) (λ _.
+    and_then (at_pick (Some one) (messages_right K S l fm one (an one))) (λ _.
+    and_then (at_pick (Some two) (messages_right K S l fm two (an two))) (λ _.
+    and_then (at_pick (Some three) (messages_right K S l fm three (an three))) (λ _.
     Ok (compared K S l an))))))
 
 -- the key buffer afterwards: written where the outcome is a key, else as it was
