@@ -7,10 +7,9 @@ use Rattle.kinds.specs.Groups.{group_length}
 use Rattle.kinds.specs.Numbers.{number_of, four_bytes}
 use Rattle.kinds.specs.ModularLaws.{four_number}
 use Rattle.kinds.proofs.GroupLengths.{group_grows, group_short}
-use Rattle.locks.specs.declared.records.GateMark.{GateMark}
 use Rattle.locks.specs.Limits.{most_inputs, longest_view}
 use Rattle.locks.specs.Lengths.{view_length}
-use Rattle.locks.specs.Reading.{marked, gate_mark}
+use Rattle.locks.specs.Reading.{GateMark, marked, gate_mark}
 
 -- four bytes and what lies behind them
 pub number_spelled : (xs : List ℕ) → Bytes xs → 4 ≤ length xs → four_bytes (number_of xs) ++ drop 4 xs ≡ xs

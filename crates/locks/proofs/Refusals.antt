@@ -9,11 +9,10 @@ use Rattle.faults.specs.Numbers.{fault}
 use Rattle.faults.specs.Outcomes.{check, and_then, map_ok}
 use Rattle.faults.proofs.Passed.{err_ok, err_same, check_ok}
 use Rattle.kinds.specs.Kind.{Kind, Lawful, Bytes}
-use Rattle.locks.specs.declared.records.GateMark.{GateMark}
 use Rattle.locks.specs.Circuit.{Gate, ac, mc, ad, mu, mus}
 use Rattle.locks.specs.Limits.{longest_view}
 use Rattle.locks.specs.Lengths.{view_length}
-use Rattle.locks.specs.Reading.{marked, gate_mark, gate_size, wire_and_row, two_wires, gate_body, gate_in, wire_right, wire_and_row_right, two_wires_right, gate_right, counted, in_front, gates_from}
+use Rattle.locks.specs.Reading.{GateMark, marked, gate_mark, gate_size, wire_and_row, two_wires, gate_body, gate_in, wire_right, wire_and_row_right, two_wires_right, gate_right, counted, in_front, gates_from}
 use Rattle.locks.specs.Encoding.{gate_bytes, GateFor, GatesFor}
 use Rattle.locks.specs.Refusing.{letters, record_size, InFront, RowBroken, WiresBroken, FieldsBroken, GateBroken, gate_cut, gate_unmarked, gate_short, gate_field, gate_view}
 use Rattle.locks.proofs.Fields.{bytes_drop, mark_spelled, first_letter, second_letter, gate_marked}
@@ -58,7 +57,7 @@ module _ (K : Kind) where
       ⊎_elim (λ p. (omega (arith, leb-false (4 + K.width) (length (drop 2 xs)) p.0, length-drop 2 xs, two), p.1)) (λ p. err_ok (sym p.1))
       (check_err (leb (4 + K.width) (length (drop 2 xs))) _ _ f h)
 
-  wires_short : (at : ℕ) (xs : List ℕ) (f : Fault) → 2 ≤ length xs → two_wires K at (drop 2 xs) ≡ Err f → (length xs < 10) × (fault Reason.Truncated at ≡ f)
+  wires_short : (at : ℕ) (xs : List ℕ) (f : Fault) → 2 ≤ length xs → two_wires at (drop 2 xs) ≡ Err f → (length xs < 10) × (fault Reason.Truncated at ≡ f)
   wires_short at xs f two h =
       ⊎_elim (λ p. (omega (arith, leb-false 8 (length (drop 2 xs)) p.0, length-drop 2 xs, two), p.1)) (λ p. err_ok (sym p.1))
       (check_err (leb 8 (length (drop 2 xs))) _ _ f h)
@@ -68,8 +67,8 @@ module _ (K : Kind) where
       → (length xs < record_size K m) × (fault Reason.Truncated at ≡ f)
   body_broken GateMark.AddConstant at xs f two h = row_short at xs f two (map_refused _ (wire_and_row K at (drop 2 xs)) f h)
   body_broken GateMark.MultiplyConstant at xs f two h = row_short at xs f two (map_refused _ (wire_and_row K at (drop 2 xs)) f h)
-  body_broken GateMark.Add at xs f two h = wires_short at xs f two (map_refused _ (two_wires K at (drop 2 xs)) f h)
-  body_broken GateMark.Multiply at xs f two h = wires_short at xs f two (map_refused _ (two_wires K at (drop 2 xs)) f h)
+  body_broken GateMark.Add at xs f two h = wires_short at xs f two (map_refused _ (two_wires at (drop 2 xs)) f h)
+  body_broken GateMark.Multiply at xs f two h = wires_short at xs f two (map_refused _ (two_wires at (drop 2 xs)) f h)
 
   record_broken : (k own q at : ℕ) (xs : List ℕ) (f : Fault) → gate_in K at xs ≡ Err f → GateBroken K k own q at xs f
   record_broken k own q at xs f h =
@@ -94,7 +93,7 @@ module _ (K : Kind) where
       (λ p. inr (⊎_elim (λ q. (wire_fine own (at + 2) a p.0 p.1, q.0, sym q.1)) (λ q. err_ok (sym q.1)) (check_err (K.lawful c) (fault Reason.UnlawfulConstant (at + 6)) (Ok tt) f p.2)))
       (then_refused (wire_right own (at + 2) a) _ f h)
 
-  wires_broken : (own at a b : ℕ) (f : Fault) → two_wires_right K at own a b ≡ Err f → WiresBroken K own at a b f
+  wires_broken : (own at a b : ℕ) (f : Fault) → two_wires_right at own a b ≡ Err f → WiresBroken K own at a b f
   wires_broken own at a b f h =
       ⊎_elim (λ e. inl (wire_broken own (at + 2) a f e))
       (λ p. let w = wire_broken own (at + 6) b f p.2 in inr (wire_fine own (at + 2) a p.0 p.1, w.0, w.1))

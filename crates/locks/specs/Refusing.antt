@@ -6,12 +6,11 @@ use Rattle.faults.specs.declared.Fault.{Fault}
 use Rattle.faults.specs.Numbers.{fault}
 use Rattle.kinds.specs.Kind.{Kind, Laws, Bytes}
 use Rattle.kinds.specs.Numbers.{four_bytes}
-use Rattle.locks.specs.declared.records.GateMark.{GateMark}
 use Rattle.locks.specs.declared.records.Counts.{Counts}
 use Rattle.locks.specs.Circuit.{Gate, ac, mc, ad, mu, Output, Circuit, mus}
 use Rattle.locks.specs.Limits.{most_inputs, most_gates, most_outputs, longest_view}
 use Rattle.locks.specs.Lengths.{view_length}
-use Rattle.locks.specs.Reading.{lock_of}
+use Rattle.locks.specs.Reading.{GateMark, lock_of}
 use Rattle.locks.specs.Encoding.{gate_bytes, output_bytes, encoded, GateFor, GatesFor, OutputFor, WellFormed}
 
 -- the letters of a gate's mark, and the size of its record

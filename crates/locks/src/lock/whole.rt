@@ -1,5 +1,5 @@
 // Reading a whole lock.
-ghost use Rattle.std.specs.Prelude.{◌≡◌, ◌≤◌, length};
+ghost use Rattle.std.specs.Prelude.{◌≡◌, ◌≤◌};
 ghost use Rattle.faults.specs.Outcomes.{map_ok};
 ghost use Rattle.locks.specs.Circuit.{mus};
 ghost use Rattle.locks.specs.Reading.{records_of, lock_of};

@@ -1,5 +1,5 @@
 // The reader's steps: over one record, over all of them.
-ghost use Rattle.std.specs.Prelude.{◌≡◌, ℕ, ◌+◌, ◌^◌, ◌<◌, ◌≤◌, List, length};
+ghost use Rattle.std.specs.Prelude.{◌≡◌, ◌+◌, ◌<◌, ◌≤◌, length};
 ghost use Rattle.faults.specs.Outcomes.{map_ok};
 ghost use Rattle.locks.specs.Reading.{gate_in, output_in, gate_tested, output_tested, gates_from, outputs_from, ended};
 ghost use Rattle.locks.specs.Model.{gate_of, output_of, standing, start_of, behind_header, behind, past_gate, past_output, reached, tally, all_read};
@@ -119,7 +119,7 @@ impl<'a> Reader<'a> {
     ) -> Result<(), Fault>
         ensures { reached result (standing self.new) ≡ map_ok all_read (outputs_from K.kind count wires self.old.at self.old.rest.now) }
     {
-        for _j in 0..count {
+        for _ in 0..count {
             self.next_output::<K>(wires)?;
         }
         Ok(())
