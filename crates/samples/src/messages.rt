@@ -42,7 +42,7 @@ pub const SHIFTED: Round = Round {
 };
 
 // Bytes, and numbers of four bytes behind them.
-fn joined(heap: Global, head: &[u8], numbers: &[u32]) -> Result<Vec<u8>, AllocError>
+pub fn joined(heap: Global, head: &[u8], numbers: &[u32]) -> Result<Vec<u8>, AllocError>
     ensures { IfOk result (λ bytes. vec_len bytes ≡ length head.now + 4 * length numbers.now) }
 {
     let mut bytes = head.to_vec(heap)?;
@@ -54,7 +54,7 @@ fn joined(heap: Global, head: &[u8], numbers: &[u32]) -> Result<Vec<u8>, AllocEr
 
 impl Round {
     // 32 blind bytes that are alike, two shares, a mask and the product.
-    pub fn view(self, heap: Global, branch: Branch) -> Result<Vec<u8>, AllocError>
+    pub fn view(self, heap: Global, branch: Branch, blind: u8) -> Result<Vec<u8>, AllocError>
         ensures { IfOk result (λ view. vec_len view ≡ 48) }
     {
         let [one, two, three] = self.products;
@@ -63,16 +63,16 @@ impl Round {
             Branch::Two => [1, 2, 7, two],
             Branch::Three => [4_294_967_288, 4_294_967_278, 50, three],
         };
-        joined(heap, &[branch.number(); 32], &numbers)
+        joined(heap, &[blind; 32], &numbers)
     }
 
-    // Mark, output shares and seals.
+    // Mark, output shares and seals. The blinds are the branches' numbers.
     pub fn first<S: Sealer>(self, heap: Global, sealer: &S) -> Result<Vec<u8>, Fail>
         ensures { IfOk result (λ first. vec_len first ≡ 14 + 3 * S.sealing.size) }
     {
         let mut bytes = joined(heap, b"FM", &self.outputs)?;
         for branch in [Branch::One, Branch::Two, Branch::Three] {
-            let view = self.view(heap, branch)?;
+            let view = self.view(heap, branch, branch.number())?;
             let mut seal = vec![in heap; 0u8; S::LENGTH]?;
             sealer.seal(view.as_slice(), seal.as_mut_slice())?;
             bytes.extend_from_slice(seal.as_slice())?;
@@ -86,7 +86,8 @@ impl Round {
     {
         let mut bytes = [b'A', b'N', pick.number()].to_vec(heap)?;
         for branch in [pick, pick.after()] {
-            bytes.extend_from_slice(self.view(heap, branch)?.as_slice())?;
+            let view = self.view(heap, branch, branch.number())?;
+            bytes.extend_from_slice(view.as_slice())?;
         }
         Ok(bytes)
     }

@@ -45,6 +45,7 @@ pub const NUMBERS: [u8; 28] =
 
 // The key of the two bits, and what a tape for them has behind the blinds.
 pub const BIT_KEY: [u8; 2] = [1, 1];
+
 pub const BIT_NUMBERS: [u8; 7] = [1, 0, 0, 1, 1, 0, 1];
 
 // A tape: the blinds of the three branches, each of one byte 32 times, then its elements.
