@@ -1,5 +1,6 @@
 // What the program plays with, from files.
 use crate::stop::Stop;
+use plays::Opening;
 use std::fs;
 
 // A lock with a key, a tape, and the pick of the round that is shown in full.
@@ -36,5 +37,13 @@ impl Example {
             tape,
             pick: first_digit(pick.as_slice()),
         })
+    }
+
+    pub fn opening(&self) -> Opening<'_> {
+        Opening {
+            lock: self.lock.as_slice(),
+            key: self.key.as_slice(),
+            tape: self.tape.as_slice(),
+        }
     }
 }

@@ -11,9 +11,9 @@ use stop::Stop;
 mod example;
 mod forgery;
 mod messages;
+mod player;
 mod shown;
 mod stop;
-mod text;
 
 fn show_as<K: ElementKind>(rt: &HostRuntime, example: &Example) -> Result<(), Stop> {
     println!(rt; "SHA-256")?;
@@ -41,7 +41,7 @@ fn main(rt: HostRuntime) -> Result<(), Stop> {
     promises_stand();
     let played = play(&rt);
     if let Err(Stop::Refused(fault)) = &played {
-        println!(rt; "{}", text::Refusal(*fault))?;
+        println!(rt; "{fault}")?;
         return Ok(());
     }
     played
