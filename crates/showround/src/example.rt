@@ -1,5 +1,6 @@
 // What the program plays with, from files.
 use crate::stop::Stop;
+use kinds::name::KindName;
 use plays::Opening;
 use std::fs;
 
@@ -37,6 +38,14 @@ impl Example {
             tape,
             pick: first_digit(pick.as_slice()),
         })
+    }
+
+    // The kind of element that the lock names.
+    pub fn kind(&self) -> Option<KindName> {
+        match self.lock.as_slice() {
+            [_, _, number, ..] => KindName::try_from(*number).ok(),
+            _ => None,
+        }
     }
 
     pub fn opening(&self) -> Opening<'_> {

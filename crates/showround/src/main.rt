@@ -3,6 +3,7 @@
 
 use engine::{Bit, ElementKind, Residue, Sha3_256, Sha256, Word, promises_stand};
 use example::Example;
+use kinds::name::KindName;
 use report::report;
 use shown::show;
 use std::env;
@@ -30,10 +31,11 @@ fn play(rt: &HostRuntime) -> Result<(), Stop> {
     let example = Example::read(rt, name.as_str())?;
     let told = report(rt.alloc(), example.lock.as_slice())?;
     print!(rt; "{told}")?;
-    match example.lock.as_slice() {
-        [_, _, Bit::NUMBER, ..] => show_as::<Bit>(rt, &example),
-        [_, _, Residue::NUMBER, ..] => show_as::<Residue>(rt, &example),
-        _ => show_as::<Word>(rt, &example),
+    match example.kind() {
+        Some(KindName::Bit) => show_as::<Bit>(rt, &example),
+        Some(KindName::Residue) => show_as::<Residue>(rt, &example),
+        // a lock of no kind is refused as one of words
+        Some(KindName::Word) | None => show_as::<Word>(rt, &example),
     }
 }
 

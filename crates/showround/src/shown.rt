@@ -74,7 +74,13 @@ fn show_extracted<K: ElementKind, S: Sealer>(
             let branch = branch.number();
             println!(rt; "extract two views of branch {branch} with one seal, unlike at {offset}")?
         }
-        Err(refused) => { println!(rt; "extract pick {} {}", Branch::told(refused.pick), refused.fault)? }
+        Err(refused) => {
+            println!(rt;
+                "extract pick {} {}",
+                Branch::told(refused.pick),
+                refused.fault
+            )?
+        }
     }
     Ok(())
 }

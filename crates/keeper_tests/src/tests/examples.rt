@@ -11,7 +11,7 @@ use sha2_256::Sha256;
 use sha3::Sha3_256;
 use std::process::Abort;
 use std::test::Fail;
-use toy_seals::{Short, Wide};
+use toy_seals::{SHORT, WIDE};
 
 // First message and answer are those made by hand, and the verifier accepts them.
 fn worked<S: Sealer>(
@@ -49,8 +49,8 @@ fn worked_to_the_byte(rt: HostRuntime) -> Result<(), Fail> {
     for pick in [Branch::One, Branch::Two, Branch::Three] {
         worked(&rt, &Sha256, pick, 110)?;
         worked(&rt, &Sha3_256, pick, 110)?;
-        worked(&rt, &Short, pick, 17)?;
-        worked(&rt, &Wide, pick, 206)?;
+        worked(&rt, &SHORT, pick, 17)?;
+        worked(&rt, &WIDE, pick, 206)?;
     }
     Ok(())
 }

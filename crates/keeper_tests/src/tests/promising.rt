@@ -13,7 +13,7 @@ use seals::Sealer;
 use sha2_256::Sha256;
 use std::process::Abort;
 use std::test::Fail;
-use toy_seals::Short;
+use toy_seals::{SHORT, Short};
 
 // No row of it is a residue.
 const UNLAWFUL: [u8; 124] = [0xff; 124];
@@ -109,7 +109,7 @@ fn locks_that_do_not_read(rt: HostRuntime) -> Result<(), Fail> {
         tape: &[],
     };
     assert!(rt;
-        outcome::<Residue, Short>(&rt, &Short, no_residue, WRONG)?
+        outcome::<Residue, Short>(&rt, &SHORT, no_residue, WRONG)?
             == told(Reason::UnlawfulConstant, 31)
     );
     Ok(())
@@ -181,7 +181,7 @@ fn sizes_in_order(rt: HostRuntime) -> Result<(), Fail> {
         key: &[],
         tape: &[],
     };
-    let long = outcome::<Word, Short>(&rt, &Short, five, WRONG)?;
+    let long = outcome::<Word, Short>(&rt, &SHORT, five, WRONG)?;
     assert!(rt; long == told(Reason::WrongSize, 0));
     let key = &UNLAWFUL[..8];
     assert!(rt; residues(&rt, &[], &[], WRONG)? == told(Reason::WrongSize, 1));

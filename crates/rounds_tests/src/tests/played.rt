@@ -13,7 +13,7 @@ use sha3::Sha3_256;
 use std::process::Abort;
 use std::test::Fail;
 use theory::Extracted;
-use toy_seals::{Short, Wide};
+use toy_seals::{SHORT, Short, WIDE, Wide};
 
 // What is played, and how long its answers are.
 #[derive(Clone, Copy)]
@@ -122,10 +122,10 @@ fn short_and_long_seals(rt: HostRuntime) -> Result<(), Fail> {
     let words = numbers(&WORDS, tape_of_numbers.as_slice());
     let residues = numbers(&RESIDUES, tape_of_numbers.as_slice());
     let bits = bits(tape_of_bits.as_slice());
-    words.gives_key::<Word, Short>(&rt, &Short, 17)?;
-    residues.gives_key::<Residue, Wide>(&rt, &Wide, 206)?;
-    bits.gives_key::<Bit, Short>(&rt, &Short, 8)?;
-    bits.gives_key::<Bit, Wide>(&rt, &Wide, 197)
+    words.gives_key::<Word, Short>(&rt, &SHORT, 17)?;
+    residues.gives_key::<Residue, Wide>(&rt, &WIDE, 206)?;
+    bits.gives_key::<Bit, Short>(&rt, &SHORT, 8)?;
+    bits.gives_key::<Bit, Wide>(&rt, &WIDE, 197)
 }
 
 // The shortest view that a lock has, 33 bytes, and the longest, 65,535.

@@ -9,7 +9,7 @@ use sha2_256::Sha256;
 use sha3::Sha3_256;
 use std::process::Abort;
 use std::test::Fail;
-use toy_seals::Short;
+use toy_seals::SHORT;
 
 // One byte of a message is turned: of the first one, or of the answer.
 #[derive(Clone, Copy)]
@@ -127,7 +127,7 @@ fn damage_behind_the_seals(rt: HostRuntime) -> Result<(), Fail> {
         (95, told_in(Branch::Two, Reason::WrongOutputShare, 0)),
         (98, told_in(Branch::Two, Reason::WrongSeal, 0)),
     ] {
-        assert!(rt; Damage::Answer(offset).judged(&rt, &Short, Branch::One)? == verdict);
+        assert!(rt; Damage::Answer(offset).judged(&rt, &SHORT, Branch::One)? == verdict);
     }
     Ok(())
 }

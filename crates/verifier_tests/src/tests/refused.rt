@@ -7,7 +7,7 @@ use samples::messages::HONEST;
 use samples::worked::{FIVE, NO_RESIDUE, ONE_MORE, OTHER_MARK, OWN_WIRE, RESIDUES, WORDS};
 use sha2_256::Sha256;
 use std::test::Fail;
-use toy_seals::{Short, Wide};
+use toy_seals::{SHORT, WIDE};
 
 #[test]
 fn locks_that_do_not_read(rt: HostRuntime) -> Result<(), Fail> {
@@ -100,8 +100,8 @@ fn sizes_and_the_pick(rt: HostRuntime) -> Result<(), Fail> {
         pick: 0,
         answer: fm,
     };
-    assert!(rt; five.judged(&rt, &Short)? == told(Reason::WrongSize, 0));
-    assert!(rt; five.judged(&rt, &Wide)? == told(Reason::WrongSize, 1));
+    assert!(rt; five.judged(&rt, &SHORT)? == told(Reason::WrongSize, 0));
+    assert!(rt; five.judged(&rt, &WIDE)? == told(Reason::WrongSize, 1));
     for (first, pick, answer, lengths, verdict) in [
         (an, 0, fm, [15, 15], told(Reason::WrongSize, 1)),
         (fm, 0, fm, [15, 15], told(Reason::WrongSize, 2)),

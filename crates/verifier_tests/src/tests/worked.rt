@@ -6,15 +6,15 @@ use samples::worked::{OTHER_TARGET, WORDS};
 use sha2_256::Sha256;
 use sha3::Sha3_256;
 use std::test::Fail;
-use toy_seals::{Short, Wide};
+use toy_seals::{SHORT, WIDE};
 
 // With seals of 1, 32 and 64 bytes.
 #[test]
 fn the_worked_example(rt: HostRuntime) -> Result<(), Fail> {
     verdicts(&rt, &Sha256, &WORDS, HONEST, [Ok(()); 3])?;
     verdicts(&rt, &Sha3_256, &WORDS, HONEST, [Ok(()); 3])?;
-    verdicts(&rt, &Short, &WORDS, HONEST, [Ok(()); 3])?;
-    verdicts(&rt, &Wide, &WORDS, HONEST, [Ok(()); 3])
+    verdicts(&rt, &SHORT, &WORDS, HONEST, [Ok(()); 3])?;
+    verdicts(&rt, &WIDE, &WORDS, HONEST, [Ok(()); 3])
 }
 
 // The forged product is told where its branch is the picked one, and nowhere else.
