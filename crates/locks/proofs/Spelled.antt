@@ -13,7 +13,8 @@ use Rattle.locks.specs.Limits.{most_inputs, most_gates, most_outputs, longest_vi
 use Rattle.locks.specs.Lengths.{view_length}
 use Rattle.locks.specs.Reading.{GateMark, marked, gate_mark, gate_size, output_size, wire_and_row, two_wires, gate_body, gate_in, output_in, wire_right, wire_and_row_right, two_wires_right, gate_right, output_right, counted, Records, in_front, gates_from, outputs_from, gates_in, outputs_in, ended, header_of, records_of, lock_of}
 use Rattle.locks.specs.Encoding.{gate_bytes, output_bytes, encoded, GateFor, GatesFor, OutputFor, WellFormed}
-use Rattle.locks.proofs.Fields.{number_spelled, bytes_drop, cut, mark_spelled, first_letter, second_letter, gate_marked, view_starts}
+use Rattle.locks.specs.Refusing.{first_letter, second_letter}
+use Rattle.locks.proofs.Fields.{number_spelled, bytes_drop, cut, mark_spelled, gate_marked, view_starts}
 
 module _ (K : Kind) where
   -- a record of the gate g stands at the front of xs
@@ -97,7 +98,7 @@ module _ (K : Kind) where
       go two None e k = err_ok k
       go two (Some m) e k = body_stands m at xs g (gate_marked xs m e) two k
 
-  wire_below : (own place a : ℕ) (u : Unit {0}) → wire_right own place a ≡ Ok u → a < own
+  pub wire_below : (own place a : ℕ) (u : Unit {0}) → wire_right own place a ≡ Ok u → a < own
   wire_below own place a u h = ltb-true a own (check_ok _ _ _ _ h).0
 
   pub row_for : (at own a : ℕ) (c : List ℕ) (u : Unit {0}) → wire_and_row_right K at own a c ≡ Ok u → (a < own) × Lawful K c

@@ -14,11 +14,20 @@ use Rattle.locks.specs.Reading.{GateMark, lock_of}
 use Rattle.locks.specs.Encoding.{gate_bytes, output_bytes, encoded, GateFor, GatesFor, OutputFor, WellFormed}
 
 -- the letters of a gate's mark, and the size of its record
+abbrev pub first_letter : GateMark → ℕ
+first_letter GateMark.AddConstant = 65
+first_letter GateMark.MultiplyConstant = 77
+first_letter GateMark.Add = 65
+first_letter GateMark.Multiply = 77
+
+abbrev pub second_letter : GateMark → ℕ
+second_letter GateMark.AddConstant = 67
+second_letter GateMark.MultiplyConstant = 67
+second_letter GateMark.Add = 68
+second_letter GateMark.Multiply = 85
+
 abbrev pub letters : GateMark → List ℕ
-letters GateMark.AddConstant = 65 ∷ 67 ∷ []
-letters GateMark.MultiplyConstant = 77 ∷ 67 ∷ []
-letters GateMark.Add = 65 ∷ 68 ∷ []
-letters GateMark.Multiply = 77 ∷ 85 ∷ []
+letters m = first_letter m ∷ second_letter m ∷ []
 
 abbrev pub record_size : Kind → GateMark → ℕ
 record_size K GateMark.AddConstant = 6 + K.width
