@@ -5,6 +5,23 @@ use Rattle.std.proofs.lemmas.Nat.{div-mul-add}
 use Rattle.std.proofs.lemmas.List.{length-append, length-drop, take_at, drop_at, take-append-le, drop-append-le, drop-drop, drop-take, take-take}
 use Rattle.parts.specs.Blocks.{over_blocks}
 
+-- one more chunk b, cut off the front of what is left of p after i of them
+pub chunk_more : (size : ℕ) (p b rest rest' : List ℕ) (i : ℕ) → rest ≡ drop (size * i) p → rest ≡ b ++ rest' → length b ≡ size → size * i ≤ length p →
+    (b ≡ take size (drop (size * i) p)) × (rest' ≡ drop (size * (i + 1)) p) × (size * (i + 1) ≤ length p)
+chunk_more size p b rest rest' i r c n w =
+    let k : size * (i + 1) ≡ size * i + size = rw mul-add (rw mul-one refl) in
+    let t = take_at b rest' size n in
+    let d = drop_at b rest' size n in
+    let m = drop-drop size (size * i) p in
+    let l : length p - size * i ≡ size + length rest' = sym (length-drop (size * i) p) ∙ ap length (sym r ∙ c) ∙ length-append b rest' ∙ ap (λ (x : ℕ). x + length rest') n in
+    (cc, cc, rw k (omega arith))
+
+-- no chunk more
+pub chunks_end : (size : ℕ) (p rest : List ℕ) (i : ℕ) → rest ≡ drop (size * i) p → length rest < size → size * i ≤ length p → length p / size ≡ i
+chunks_end size p rest i r h w =
+    let l : length p ≡ i * size + length rest = rw r (simp length-drop (omega arith)) in
+    rw l (div-mul-add i size (length rest) h)
+
 module _ (step : List ℕ → List ℕ → List ℕ) (size : ℕ) where
   pub blocks_none : (start p : List ℕ) → over_blocks step size start 0 p ≡ start
   unfolding over_blocks
@@ -17,20 +34,13 @@ module _ (step : List ℕ → List ℕ → List ℕ) (size : ℕ) where
   unfolding over_blocks
   blocks_more start p s s' b rest rest' i e f r c n w =
       let g : over_blocks step size start (i + 1) p ≡ step (over_blocks step size start i p) (take size (drop (size * i) p)) = rw add-one refl in
-      let k : size * (i + 1) ≡ size * i + size = rw mul-add (rw mul-one refl) in
-      let t = take_at b rest' size n in
-      let d = drop_at b rest' size n in
-      let m = drop-drop size (size * i) p in
-      let l : length p - size * i ≡ size + length rest' = sym (length-drop (size * i) p) ∙ ap length (sym r ∙ c) ∙ length-append b rest' ∙ ap (λ (x : ℕ). x + length rest') n in
-      (cc, cc, rw k (omega arith))
+      let k = chunk_more size p b rest rest' i r c n w in
+      (cc, k.1, k.2)
 
   -- no block more
-  pub blocks_end : (start p s rest : List ℕ) (i : ℕ) → s ≡ over_blocks step size start i p → size * i ≤ length p → rest ≡ drop (size * i) p →
-      length rest < size → s ≡ over_blocks step size start (length p / size) p
-  blocks_end start p s rest i e w r h =
-      let l : length p ≡ i * size + length rest = rw r (simp length-drop (omega arith)) in
-      let n : length p / size ≡ i = rw l (div-mul-add i size (length rest) h) in
-      e ∙ ap (λ (k : ℕ). over_blocks step size start k p) (sym n)
+  pub blocks_end : (start p s rest : List ℕ) (i : ℕ) → s ≡ over_blocks step size start i p → rest ≡ drop (size * i) p → length rest < size →
+      size * i ≤ length p → s ≡ over_blocks step size start (length p / size) p
+  blocks_end start p s rest i e r h w = e ∙ ap (λ (k : ℕ). over_blocks step size start k p) (sym (chunks_end size p rest i r h w))
 
   -- what follows the blocks doesn't matter
   pub blocks_front : (start m x : List ℕ) (n : ℕ) → size * n ≤ length m → over_blocks step size start n (m ++ x) ≡ over_blocks step size start n m

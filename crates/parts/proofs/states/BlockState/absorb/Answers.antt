@@ -33,5 +33,5 @@ returns-clause-state g c =
     let b = g.Self.BlockState in
     let i = c.loop-block.invariant in
     blocks_end b.step b.BLOCK (b.words c.args.self.now) c.args.bytes.now (b.words c.loop-block.self)
-    (chunks_exact_rest c.loop-block.block-iterator) (length c.loop-block.yielded) i.state i.within i.left
-    (omega (arith, c.in-None.ensures.steps.1.0))
+    (chunks_exact_rest c.loop-block.block-iterator) (length c.loop-block.yielded) i.state i.left
+    (omega (arith, c.in-None.ensures.steps.1.0)) i.within
