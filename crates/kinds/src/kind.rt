@@ -1,13 +1,16 @@
-// The interface of an element kind.
+// The interface of an element kind: its definition, and elements that keep to it.
 ghost use Rattle.std.specs.Prelude.{◌≡◌, ℕ, true, false, List, length, is_ok, if◌then◌else◌, MatchOption, ◌==◌, nat_eq};
 ghost use Rattle.kinds.specs.Kind.{Kind, Laws, same_row};
 
+// A row was asked for in more or fewer bytes than it has.
 #[derive(Clone, Copy)]
 pub struct WrongLength;
 
 pub trait ElementKind: Copy + Eq {
+    // By this number a lock says its kind.
     const NUMBER: u8;
 
+    // A row has so many bytes.
     const WIDTH: usize;
 
     ghost NUMBER: { ℕ };
@@ -30,6 +33,7 @@ pub trait ElementKind: Copy + Eq {
     fn product(self, other: Self) -> Self
         ensures { row result ≡ kind.mul (row self) (row other) };
 
+    // The element with this row, if there is one.
     fn read(bytes: &[u8]) -> Option<Self>
         ensures { MatchOption result (kind.lawful bytes.now ≡ false) (λ x. row x ≡ bytes.now) };
 
