@@ -1,5 +1,6 @@
 -- A keeper's state between calls: what a call over it tells and leaves, and what the next call finds.
 use Rattle.std.proofs.Common.{◌≡◌, ℕ, ◌≤◌, Bool, true, false, cond, leb, List, [], ◌∷◌, map, length, take, drop, Some, None, Ok, Err, Option, Result, sym, refl, ap, ◌∙◌, subst, arith, length-take, take_all, le-leb, leb-true}
+use Rattle.std.proofs.lemmas.List.{length-map}
 use lib.Seq.{take-append_seam}
 use Rattle.faults.specs.declared.Fault.{Fault}
 use Rattle.theory.specs.declared.RoundState.{RoundState}
@@ -66,13 +67,9 @@ told_back (s ∷ t) = ap (λ (o : Option RoundState). for_one o (λ s. for_one (
     back RoundState.Answered = refl
     back RoundState.Dropped = refl
 
-length_numbers : (t : List RoundState) → length (map record_number t) ≡ length t
-length_numbers [] = refl
-length_numbers (s ∷ t) = let l = length_numbers t in omega arith
-
 -- the records of a state that was saved
 front_told : (t : List RoundState) (ns : List ℕ) → take (length t) (numbers_over t ns) ≡ map record_number t
-front_told t ns = ap (λ (n : ℕ). take n (numbers_over t ns)) (sym (length_numbers t)) ∙ take-append_seam (map record_number t) (drop (length t) ns)
+front_told t ns = ap (λ (n : ℕ). take n (numbers_over t ns)) (sym (length-map t record_number)) ∙ take-append_seam (map record_number t) (drop (length t) ns)
 
 table_told : (s : KeeperState) (t : List RoundState) (n : ℕ) → length t ≤ rounds_in s.view_length n → table_in (state_told t s) n ≡ Some t
 unfolding table_in

@@ -1,25 +1,16 @@
 -- Kinds and sealers by number.
-use Rattle.std.specs.Prelude.{ℕ, cond, Some, None, Ok, Err, Option, Result, ◌==◌}
+use Rattle.std.specs.Prelude.{ℕ, cond, Some, None, Ok, Err, Option, Result, ok_or, ◌==◌}
 use Rattle.kinds.specs.Kind.{Kind}
-use Rattle.kinds.specs.Three.{bit_kind, word_kind, residue_kind}
+use Rattle.kinds.specs.Names.{kind_of, named}
+use Rattle.kinds.specs.declared.name.KindName.{KindName}
 use Rattle.seals.specs.Sealing.{Sealing}
 use Rattle.sha2_256.specs.Sha256.{sha256_sealing}
 use Rattle.sha3.specs.Sha3.{sha3_256_sealing}
-use Rattle.exports.specs.declared.names.KindName.{KindName}
 use Rattle.exports.specs.declared.names.SealerName.{SealerName}
 use Rattle.exports.specs.declared.told.Refusal.{Refusal}
 
--- a kind goes by its own number
-abbrev pub kind_named : ℕ → Result KindName Refusal
-kind_named n = cond (n == 1) (Ok KindName.Bit) (cond (n == 2) (Ok KindName.Word) (cond (n == 3) (Ok KindName.Residue) (Err Refusal.NoKind)))
-
-abbrev pub sealer_named : ℕ → Result SealerName Refusal
-sealer_named n = cond (n == 1) (Ok SealerName.Sha256) (cond (n == 2) (Ok SealerName.Sha3_256) (Err Refusal.NoSealer))
-
-abbrev pub kind_of : KindName → Kind
-kind_of KindName.Bit = bit_kind
-kind_of KindName.Word = word_kind
-kind_of KindName.Residue = residue_kind
+abbrev pub sealer_named : ℕ → Option SealerName
+sealer_named n = cond (n == 1) (Some SealerName.Sha256) (cond (n == 2) (Some SealerName.Sha3_256) None)
 
 abbrev pub sealing_of : SealerName → Sealing
 sealing_of SealerName.Sha256 = sha256_sealing
@@ -32,7 +23,7 @@ or_refused (Err r) f = Err r
 
 -- the kind is named before the sealer
 abbrev pub names : (kind sealer : ℕ) → Result (KindName × SealerName) Refusal
-names kind sealer = or_refused (kind_named kind) (λ k. or_refused (sealer_named sealer) (λ s. Ok (k, s)))
+names kind sealer = or_refused (ok_or (named kind) Refusal.NoKind) (λ k. or_refused (ok_or (sealer_named sealer) Refusal.NoSealer) (λ s. Ok (k, s)))
 
 -- the outcome for the kind and the sealer of these numbers
 abbrev pub by_number : {A : Type 0} → (kind sealer : ℕ) → (Kind → Sealing → Result A Refusal) → Result A Refusal

@@ -3,12 +3,14 @@ ghost use Rattle.std.specs.Prelude.{◌≡◌, Result, Option, Some, None};
 ghost use Rattle.kinds.specs.Kind.{Kind};
 ghost use Rattle.seals.specs.Sealing.{Sealing};
 ghost use Rattle.exports.specs.declared.told.Refusal.{Refusal};
-ghost use Rattle.exports.specs.Numbered.{kind_of, sealing_of, chosen, by_number};
+ghost use Rattle.kinds.specs.Names.{kind_of};
+ghost use Rattle.exports.specs.Numbered.{sealing_of, chosen, by_number};
 
-use crate::names::{KindName, SealerName, names};
+use crate::names::{SealerName, names};
 use crate::told::Refusal;
 use kinds::bit::Bit;
 use kinds::kind::ElementKind;
+use kinds::name::KindName;
 use kinds::residue::Residue;
 use kinds::word::Word;
 use seals::Sealer;

@@ -1,15 +1,10 @@
 // Kinds and sealers, by the numbers that a caller gives.
-ghost use Rattle.std.specs.Prelude.{◌≡◌};
-ghost use Rattle.exports.specs.Numbered.{kind_named, sealer_named, names};
+ghost use Rattle.std.specs.Prelude.{◌≡◌, ok_or};
+ghost use Rattle.exports.specs.declared.told.Refusal.{Refusal};
+ghost use Rattle.exports.specs.Numbered.{sealer_named, names};
 
 use crate::told::Refusal;
-
-#[derive(Clone, Copy)]
-pub(crate) enum KindName {
-    Bit,
-    Word,
-    Residue,
-}
+use kinds::name::{KindName, NoKind};
 
 #[derive(Clone, Copy)]
 pub(crate) enum SealerName {
@@ -17,25 +12,10 @@ pub(crate) enum SealerName {
     Sha3_256,
 }
 
-impl TryFrom<u8> for KindName {
-    type Error = Refusal;
-
-    ghost try_from_gives = { λ number outcome. outcome ≡ kind_named number };
-
-    fn try_from(number: u8) -> Result<KindName, Refusal> {
-        match number {
-            1 => Ok(KindName::Bit),
-            2 => Ok(KindName::Word),
-            3 => Ok(KindName::Residue),
-            _ => Err(Refusal::NoKind),
-        }
-    }
-}
-
 impl TryFrom<u8> for SealerName {
     type Error = Refusal;
 
-    ghost try_from_gives = { λ number outcome. outcome ≡ sealer_named number };
+    ghost try_from_gives = { λ number outcome. outcome ≡ ok_or (sealer_named number) Refusal.NoSealer };
 
     fn try_from(number: u8) -> Result<SealerName, Refusal> {
         match number {
@@ -43,6 +23,14 @@ impl TryFrom<u8> for SealerName {
             2 => Ok(SealerName::Sha3_256),
             _ => Err(Refusal::NoSealer),
         }
+    }
+}
+
+impl From<NoKind> for Refusal {
+    ghost from_gives = { λ _ refusal. refusal ≡ Refusal.NoKind };
+
+    fn from(_no_kind: NoKind) -> Refusal {
+        Refusal::NoKind
     }
 }
 
