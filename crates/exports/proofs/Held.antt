@@ -11,9 +11,9 @@ use Rattle.theory.specs.Keeper.{Keeper, made_from}
 use Rattle.keeper.specs.Model.{resumed_from}
 use Rattle.exports.specs.declared.told.KeeperState.{KeeperState}
 use Rattle.exports.specs.declared.told.Refusal.{Refusal}
-use Rattle.exports.specs.Numbered.{for_one}
+use Rattle.std.specs.Option.{option_map, option_map_or, option_and_then}
 use Rattle.exports.specs.Outcomes.{told_by}
-use Rattle.exports.specs.State.{state_numbered, states_in, numbers_over, table_in, keeper_in, state_told}
+use Rattle.exports.specs.State.{state_numbered, states_in, numbers_over, table_in, keeper_of, keeper_in, state_told}
 use Rattle.exports.specs.Kept.{Keeps}
 use Rattle.exports.specs.Keeping.{Leaves, told_in, store_in, state_in, next_in}
 
@@ -23,7 +23,7 @@ unfolding states_in
 long_as [] t e = let d : t ≡ [] = cc in ap length d
 long_as (n ∷ ns) t e = go (λ u. long_as ns u) (state_numbered n) (states_in ns) refl e
   where
-    go : ((u : List RoundState) → Some u ≡ states_in ns → length u ≡ length ns) → (x : Option RoundState) (y : Option (List RoundState)) → states_in ns ≡ y → Some t ≡ for_one x (λ s. for_one y (λ u. Some (s ∷ u)) None) None → length t ≡ length (n ∷ ns)
+    go : ((u : List RoundState) → Some u ≡ states_in ns → length u ≡ length ns) → (x : Option RoundState) (y : Option (List RoundState)) → states_in ns ≡ y → Some t ≡ option_and_then (λ s. option_map (λ u. s ∷ u) y) x → length t ≡ length (n ∷ ns)
     go more None y d f = let z : ◌≡◌ {A = ℕ} 0 1 = cc in absurd (omega arith)
     go more (Some s) None d f = let z : ◌≡◌ {A = ℕ} 0 1 = cc in absurd (omega arith)
     go more (Some s) (Some u) d f =
@@ -48,19 +48,19 @@ unfolding keeper_in
 opened s store t e =
     let L = s.view_length in
     let f : take (rounds_in s.view_length (length store)) t ≡ t = take_all (rounds_in s.view_length (length store)) t (few_held s (length store) t e) in
-    ap (λ (o : Option (List RoundState)). for_one o (λ t. Some (record { view_size = s.view_length; capacity = rounds_in s.view_length (length store); store = store; table = t })) None) (sym e)
-    ∙ ap (λ (l : List RoundState). Some (record { view_size = s.view_length; capacity = rounds_in s.view_length (length store); store = store; table = l })) (sym f)
+    ap (option_map (keeper_of s store)) (sym e)
+    ∙ ap (λ (l : List RoundState). Some (keeper_of s store l)) (sym f)
 
 pub unopened : (s : KeeperState) (store : List ℕ) → None ≡ table_in s (length store) → keeper_in s store ≡ None
 unfolding keeper_in
 unopened s store e =
-    ap (λ (o : Option (List RoundState)). for_one o (λ t. Some (record { view_size = s.view_length; capacity = rounds_in s.view_length (length store); store = store; table = t })) None) (sym e)
+    ap (option_map (keeper_of s store)) (sym e)
 
 -- numbers tell their records
 told_back : (t : List RoundState) → states_in (map record_number t) ≡ Some t
 unfolding states_in
 told_back [] = refl
-told_back (s ∷ t) = ap (λ (o : Option RoundState). for_one o (λ s. for_one (states_in (map record_number t)) (λ u. Some (s ∷ u)) None) None) (back s) ∙ ap (λ (o : Option (List RoundState)). for_one o (λ u. Some (s ∷ u)) None) (told_back t)
+told_back (s ∷ t) = ap (option_and_then (λ s. option_map (λ u. s ∷ u) (states_in (map record_number t)))) (back s) ∙ ap (option_map (λ u. s ∷ u)) (told_back t)
   where
     back : (s : RoundState) → state_numbered (record_number s) ≡ Some s
     back RoundState.Promised = refl
@@ -84,7 +84,7 @@ unfolding keeper_in
 next_is s store store' k view room few same long =
     let cap-is : rounds_in s.view_length (length store') ≡ k.capacity = ap (rounds_in s.view_length) long ∙ sym room in
     let h : length k.table ≤ rounds_in s.view_length (length store') = omega arith in
-    ap (λ (o : Option (List RoundState)). for_one o (λ t. Some (record { view_size = s.view_length; capacity = rounds_in s.view_length (length store'); store = store'; table = t })) None) (table_told s k.table (length store') h)
+    ap (option_map (keeper_of s store')) (table_told s k.table (length store') h)
     ∙ (λ i. Some (record { view_size = sym view i; capacity = cap-is i; store = same i; table = k.table }))
 
 -- its store is the one beside the state
@@ -92,9 +92,9 @@ store_of : (s : KeeperState) (store : List ℕ) (k : Keeper) → keeper_in s sto
 unfolding keeper_in
 store_of s store k e = go (table_in s (length store)) e
   where
-    go : (o : Option (List RoundState)) → for_one o (λ t. Some (record { view_size = s.view_length; capacity = rounds_in s.view_length (length store); store = store; table = t })) None ≡ Some k → k.store ≡ store
+    go : (o : Option (List RoundState)) → option_map (keeper_of s store) o ≡ Some k → k.store ≡ store
     go None d = let z : ◌≡◌ {A = ℕ} 0 1 = cc in absurd (omega arith)
-    go (Some t) d = let f : ◌≡◌ {A = Keeper} (record { view_size = s.view_length; capacity = rounds_in s.view_length (length store); store = store; table = t }) k = cc in sym (ap (λ (x : Keeper). x.store) f)
+    go (Some t) d = let f : keeper_of s store t ≡ k = cc in sym (ap (λ (x : Keeper). x.store) f)
 
 -- what a call over a state tells and leaves
 pub record Carried {A : Type 0} (s : KeeperState) (store : List ℕ) (result : Keeper → Result A Fault) (after : Keeper → Keeper) (told : Result A Refusal) (s' : KeeperState) (store' : List ℕ) : Type 0 where
@@ -108,10 +108,10 @@ module _ {A : Type 0} (s : KeeperState) (store : List ℕ) (result : Keeper → 
   pub none_carried : keeper_in s store ≡ None → Carried s store result after (Err Refusal.BadKeeper) s store
   unfolding told_in store_in state_in next_in
   none_carried e = record {
-    outcome = sym (ap (λ (o : Option Keeper). for_one o (λ k. told_by (result k)) (Err Refusal.BadKeeper)) e);
-    store_is = sym (ap (λ (o : Option Keeper). for_one o (λ k. (after k).store) store) e);
-    state_is = sym (ap (λ (o : Option Keeper). for_one o (λ k. left (result k) (λ _. state_told (after k).table s) s) s) e);
-    next = e ∙ sym (ap (λ (o : Option Keeper). for_one o (λ k. Some (after k)) None) e);
+    outcome = sym (ap (λ (o : Option Keeper). option_map_or (λ k. told_by (result k)) o (Err Refusal.BadKeeper)) e);
+    store_is = sym (ap (λ (o : Option Keeper). option_map_or (λ k. (after k).store) o store) e);
+    state_is = sym (ap (λ (o : Option Keeper). option_map_or (λ k. left (result k) (λ _. state_told (after k).table s) s) o s) e);
+    next = e ∙ sym (ap (option_map after) e);
   }
 
   module _ (k : Keeper) (e : keeper_in s store ≡ Some k) (view : k.view_size ≡ s.view_length) (room : k.capacity ≡ rounds_in s.view_length (length store)) where
@@ -129,16 +129,16 @@ module _ {A : Type 0} (s : KeeperState) (store : List ℕ) (result : Keeper → 
     pub carried : (r : Result A Fault) (s' : KeeperState) (store' : List ℕ) → r ≡ result k → Keeps k (result k) (after k) → Leaves s r (after k) s' store' → length store' ≡ length store → Carried s store result after (told_by r) s' store'
     unfolding told_in store_in state_in next_in
     carried r s' store' d keeps leaves long = record {
-      outcome = ap told_by d ∙ sym (ap (λ (o : Option Keeper). for_one o (λ k. told_by (result k)) (Err Refusal.BadKeeper)) e);
-      store_is = leaves.store_is ∙ sym (ap (λ (o : Option Keeper). for_one o (λ k. (after k).store) store) e);
+      outcome = ap told_by d ∙ sym (ap (λ (o : Option Keeper). option_map_or (λ k. told_by (result k)) o (Err Refusal.BadKeeper)) e);
+      store_is = leaves.store_is ∙ sym (ap (λ (o : Option Keeper). option_map_or (λ k. (after k).store) o store) e);
       state_is =
           leaves.state_is ∙ ap (λ (x : Result A Fault). left x (λ _. state_told (after k).table s) s) d
-          ∙ sym (ap (λ (o : Option Keeper). for_one o (λ k. left (result k) (λ _. state_told (after k).table s) s) s) e);
-      next = next_found r s' store' (subst (λ (x : Result A Fault). Keeps k x (after k)) (sym d) keeps) leaves long ∙ sym (ap (λ (o : Option Keeper). for_one o (λ k. Some (after k)) None) e);
+          ∙ sym (ap (λ (o : Option Keeper). option_map_or (λ k. left (result k) (λ _. state_told (after k).table s) s) o s) e);
+      next = next_found r s' store' (subst (λ (x : Result A Fault). Keeps k x (after k)) (sym d) keeps) leaves long ∙ sym (ap (option_map after) e);
     }
 
 -- no round promised yet
 pub made_is : (L : ℕ) (ns store : List ℕ) → keeper_in (record { view_length = L; promised = 0; records = ns }) store ≡ Some (made_from L store)
 unfolding keeper_in table_in states_in
 made_is L ns store =
-    ap (λ (b : Bool). for_one (cond b (Some []) None) (λ t. Some (record { view_size = L; capacity = rounds_in L (length store); store = store; table = t })) None) (le-leb 0 (rounds_in L (length store)) (omega arith))
+    ap (λ (b : Bool). option_map (keeper_of (record { view_length = L; promised = 0; records = ns }) store) (cond b (Some []) None)) (le-leb 0 (rounds_in L (length store)) (omega arith))

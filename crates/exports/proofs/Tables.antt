@@ -5,7 +5,7 @@ use Rattle.theory.specs.declared.RoundState.{RoundState}
 use Rattle.theory.specs.Records.{record_number}
 use Rattle.theory.specs.Store.{rounds_in}
 use Rattle.exports.specs.declared.told.KeeperState.{KeeperState}
-use Rattle.exports.specs.Numbered.{for_one}
+use Rattle.std.specs.Option.{option_map, option_and_then}
 use Rattle.exports.specs.State.{state_numbered, states_in, table_in}
 
 -- records, then those of the numbers left
@@ -14,19 +14,19 @@ joined t (Some u) = Some (t ++ u)
 joined t None = None
 
 -- one number more
-one : (ns : List ℕ) (i : ℕ) → i < length ns → states_in (drop i ns) ≡ for_one (state_numbered (get_or ns i 0)) (λ s. for_one (states_in (drop (suc i) ns)) (λ t. Some (s ∷ t)) None) None
+one : (ns : List ℕ) (i : ℕ) → i < length ns → states_in (drop i ns) ≡ option_and_then (λ s. option_map (λ t. s ∷ t) (states_in (drop (suc i) ns))) (state_numbered (get_or ns i 0))
 unfolding states_in
 one ns i h = ap states_in (drop-cons ns i 0 h)
 
 after : (ns : List ℕ) (i : ℕ) (o : Option RoundState) → i < length ns → state_numbered (get_or ns i 0) ≡ o
-    → states_in (drop i ns) ≡ for_one o (λ s. for_one (states_in (drop (suc i) ns)) (λ t. Some (s ∷ t)) None) None
-after ns i o h e = one ns i h ∙ ap (λ (o : Option RoundState). for_one o (λ s. for_one (states_in (drop (suc i) ns)) (λ t. Some (s ∷ t)) None) None) e
+    → states_in (drop i ns) ≡ option_and_then (λ s. option_map (λ t. s ∷ t) (states_in (drop (suc i) ns))) o
+after ns i o h e = one ns i h ∙ ap (option_and_then (λ s. option_map (λ t. s ∷ t) (states_in (drop (suc i) ns)))) e
 
 pub read_next : (ns : List ℕ) (t : List RoundState) (i : ℕ) (s : RoundState) (x : Option (List RoundState)) → i < length ns
     → state_numbered (get_or ns i 0) ≡ Some s → x ≡ joined t (states_in (drop i ns)) → x ≡ joined (t ++ (s ∷ [])) (states_in (drop (i + 1) ns))
 read_next ns t i s x h e inv = rw add-one (inv ∙ ap (joined t) (after ns i (Some s) h e) ∙ go (states_in (drop (suc i) ns)))
   where
-    go : (y : Option (List RoundState)) → joined t (for_one y (λ t. Some (s ∷ t)) None) ≡ joined (t ++ (s ∷ [])) y
+    go : (y : Option (List RoundState)) → joined t (option_map (λ t. s ∷ t) y) ≡ joined (t ++ (s ∷ [])) y
     go (Some u) = ap (λ (l : List RoundState). Some l) (sym (append_assoc t (s ∷ []) u))
     go None = refl
 

@@ -1,5 +1,6 @@
 -- What the exported calls answer and leave: the engine's definitions, at the kind and the sealer of these numbers.
 use Rattle.std.specs.Prelude.{ℕ, List, length, Result}
+use Rattle.std.specs.Option.{option_map_or}
 use Rattle.faults.specs.Branches.{pick_byte}
 use Rattle.faults.specs.Outcomes.{map_ok}
 use Rattle.kinds.specs.Kind.{Kind}
@@ -15,7 +16,7 @@ use Rattle.exports.specs.declared.told.Refusal.{Refusal}
 use Rattle.exports.specs.declared.told.ToldLengths.{ToldLengths}
 use Rattle.exports.specs.declared.told.ToldExtracted.{ToldExtracted}
 use Rattle.exports.specs.Outcomes.{told_by, told_beside}
-use Rattle.exports.specs.Numbered.{by_number, chosen, for_one}
+use Rattle.exports.specs.Numbered.{by_number, chosen}
 
 -- a lock's counts, and the lengths of what belongs to it
 abbrev pub lengths_by : Kind → Sealing → Summary → ToldLengths
@@ -47,7 +48,7 @@ module _ (kind sealer : ℕ) (lock first answer1 answer2 answer3 : List ℕ) (wo
 
   -- the key buffer afterwards
   abbrev pub key_left : List ℕ
-  key_left = for_one (chosen kind sealer) (λ n. key_after n.0 n.1 lock first (by_branch answer1 answer2 answer3) work1 work2 key) key
+  key_left = option_map_or (λ n. key_after n.0 n.1 lock first (by_branch answer1 answer2 answer3) work1 work2 key) (chosen kind sealer) key
 
 -- branch 0 for a key
 abbrev pub extracted_told : Extracted → ToldExtracted

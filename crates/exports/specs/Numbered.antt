@@ -1,5 +1,7 @@
 -- Kinds and sealers by number.
 use Rattle.std.specs.Prelude.{ℕ, cond, Some, None, Ok, Err, Option, Result, ok_or, ◌==◌}
+use Rattle.std.specs.Option.{option_map}
+use Rattle.std.specs.Result.{result_ok}
 use Rattle.kinds.specs.Kind.{Kind}
 use Rattle.kinds.specs.Names.{kind_of, named}
 use Rattle.kinds.specs.declared.name.KindName.{KindName}
@@ -29,15 +31,6 @@ names kind sealer = or_refused (ok_or (named kind) Refusal.NoKind) (λ k. or_ref
 abbrev pub by_number : {A : Type 0} → (kind sealer : ℕ) → (Kind → Sealing → Result A Refusal) → Result A Refusal
 by_number kind sealer outcome = or_refused (names kind sealer) (λ n. outcome (kind_of n.0) (sealing_of n.1))
 
-abbrev pub chosen_of : Result (KindName × SealerName) Refusal → Option (Kind × Sealing)
-chosen_of (Ok n) = Some (kind_of n.0, sealing_of n.1)
-chosen_of (Err r) = None
-
 -- the kind and the sealer of these numbers, if they name both
 abbrev pub chosen : (kind sealer : ℕ) → Option (Kind × Sealing)
-chosen kind sealer = chosen_of (names kind sealer)
-
--- what comes of a value, or what is left where there is none
-abbrev pub for_one : {A B : Type 0} → Option A → (A → B) → B → B
-for_one (Some a) f none = f a
-for_one None f none = none
+chosen kind sealer = option_map (λ n. (kind_of n.0, sealing_of n.1)) (result_ok (names kind sealer))

@@ -2,7 +2,7 @@
 ghost use Rattle.std.specs.Prelude.{◌≡◌, length};
 ghost use Rattle.theory.specs.Keeper.{work_after};
 ghost use Rattle.theory.specs.Extraction.{by_branch, extracted, key_after};
-ghost use Rattle.exports.specs.Numbered.{for_one};
+ghost use Rattle.std.specs.Option.{option_map_or};
 ghost use Rattle.exports.specs.Outcomes.{told_beside, status_of, fault_of, left_by};
 ghost use Rattle.exports.specs.Calls.{extract_call, key_left, extracted_told};
 
@@ -33,7 +33,7 @@ impl Call for Extracting<'_> {
     ghost outcome = { λ K S call. told_beside (extracted K S call.lock.now call.first.now (by_branch call.answer1.now call.answer2.now call.answer3.now) (length call.work1.now) (length call.work2.now) (length call.key.now)) };
 
     ghost Leaves = { λ chosen old new. (new.work1.now ≡ work_after old.work1.now) × (new.work2.now ≡ work_after old.work2.now)
-        × (new.key.now ≡ for_one chosen (λ n. key_after n.0 n.1 old.lock.now old.first.now (by_branch old.answer1.now old.answer2.now old.answer3.now) (length old.work1.now) (length old.work2.now) old.key.now) old.key.now)
+        × (new.key.now ≡ option_map_or (λ n. key_after n.0 n.1 old.lock.now old.first.now (by_branch old.answer1.now old.answer2.now old.answer3.now) (length old.work1.now) (length old.work2.now) old.key.now) chosen old.key.now)
         × (new.work1.ghost_name ≡ old.work1.ghost_name) × (new.work2.ghost_name ≡ old.work2.ghost_name) × (new.key.ghost_name ≡ old.key.ghost_name) };
 
     fn run<K: ElementKind, S: Sealer>(&mut self, sealer: &S) -> Result<Extracted, Refusal> {

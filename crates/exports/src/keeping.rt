@@ -4,7 +4,7 @@ ghost use Rattle.faults.specs.declared.Fault.{Fault};
 ghost use Rattle.theory.specs.Keeper.{Keeper as Values, made_from, answer_result, answer_after, after_answer, drop_result, after_drop};
 ghost use Rattle.keeper.specs.Model.{values_of, resumed_from};
 ghost use Rattle.std.proofs.Common.{rules};
-ghost use Rattle.exports.specs.Numbered.{for_one};
+ghost use Rattle.std.specs.Option.{option_map_or};
 ghost use Rattle.exports.specs.Outcomes.{status_of, fault_of};
 ghost use Rattle.exports.specs.State.{keeper_in, state_new};
 ghost use Rattle.exports.specs.Kept.{Keeps, drop_keeps, answer_keeps};
@@ -69,7 +69,7 @@ impl Request for Answering<'_> {
 
     ghost after = { λ asked keeper. after_answer keeper asked.round asked.pick (length asked.answer.now) };
 
-    ghost Shows = { λ held old new. (new.answer.now ≡ for_one held (λ keeper. answer_after keeper old.round old.pick old.answer.now) old.answer.now)
+    ghost Shows = { λ held old new. (new.answer.now ≡ option_map_or (λ keeper. answer_after keeper old.round old.pick old.answer.now) held old.answer.now)
         × (new.answer.ghost_name ≡ old.answer.ghost_name) };
 
     ghost keeps = { λ asked keeper. answer_keeps keeper asked.round asked.pick (length asked.answer.now) };
