@@ -24,8 +24,8 @@ long_as [] t e = let d : t ≡ [] = cc in ap length d
 long_as (n ∷ ns) t e = go (λ u. long_as ns u) (state_numbered n) (states_in ns) refl e
   where
     go : ((u : List RoundState) → Some u ≡ states_in ns → length u ≡ length ns) → (x : Option RoundState) (y : Option (List RoundState)) → states_in ns ≡ y → Some t ≡ option_and_then (λ s. option_map (λ u. s ∷ u) y) x → length t ≡ length (n ∷ ns)
-    go more None y d f = let z : ◌≡◌ {A = ℕ} 0 1 = cc in absurd (omega arith)
-    go more (Some s) None d f = let z : ◌≡◌ {A = ℕ} 0 1 = cc in absurd (omega arith)
+    go more None y d f = cc
+    go more (Some s) None d f = cc
     go more (Some s) (Some u) d f =
         let g : t ≡ s ∷ u = cc in
         let l = more u (sym d) in
@@ -37,7 +37,7 @@ unfolding table_in
 few_held s n t e = go (leb s.promised (rounds_in s.view_length n)) refl e
   where
     go : (b : Bool) → leb s.promised (rounds_in s.view_length n) ≡ b → Some t ≡ cond b (states_in (take s.promised s.records)) None → length t ≤ rounds_in s.view_length n
-    go false d f = let z : ◌≡◌ {A = ℕ} 0 1 = cc in absurd (omega arith)
+    go false d f = cc
     go true d f =
         let h : s.promised ≤ rounds_in s.view_length n = leb-true s.promised (rounds_in s.view_length n) d in
         let l : length t ≡ length (take s.promised s.records) = long_as (take s.promised s.records) t f in
@@ -46,15 +46,13 @@ few_held s n t e = go (leb s.promised (rounds_in s.view_length n)) refl e
 pub opened : (s : KeeperState) (store : List ℕ) (t : List RoundState) → Some t ≡ table_in s (length store) → keeper_in s store ≡ Some (resumed_from s.view_length t store)
 unfolding keeper_in
 opened s store t e =
-    let L = s.view_length in
     let f : take (rounds_in s.view_length (length store)) t ≡ t = take_all (rounds_in s.view_length (length store)) t (few_held s (length store) t e) in
     ap (option_map (keeper_of s store)) (sym e)
     ∙ ap (λ (l : List RoundState). Some (keeper_of s store l)) (sym f)
 
 pub unopened : (s : KeeperState) (store : List ℕ) → None ≡ table_in s (length store) → keeper_in s store ≡ None
 unfolding keeper_in
-unopened s store e =
-    ap (option_map (keeper_of s store)) (sym e)
+unopened s store e = ap (option_map (keeper_of s store)) (sym e)
 
 -- numbers tell their records
 told_back : (t : List RoundState) → states_in (map record_number t) ≡ Some t
@@ -93,7 +91,7 @@ unfolding keeper_in
 store_of s store k e = go (table_in s (length store)) e
   where
     go : (o : Option (List RoundState)) → option_map (keeper_of s store) o ≡ Some k → k.store ≡ store
-    go None d = let z : ◌≡◌ {A = ℕ} 0 1 = cc in absurd (omega arith)
+    go None d = cc
     go (Some t) d = let f : keeper_of s store t ≡ k = cc in sym (ap (λ (x : Keeper). x.store) f)
 
 -- what a call over a state tells and leaves

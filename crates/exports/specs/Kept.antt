@@ -1,9 +1,7 @@
 -- What every call of a keeper keeps.
 use Rattle.std.specs.Prelude.{◌≡◌, ℕ, Ok, Err, Result, refl}
-use Rattle.std.proofs.Common.{sym}
 use Rattle.faults.specs.declared.Fault.{Fault}
 use Rattle.faults.specs.Outcomes.{map_ok}
-use Rattle.faults.proofs.Passed.{err_ok}
 use Rattle.faults.specs.declared.Branch.{Branch}
 use Rattle.theory.specs.declared.RoundState.{RoundState}
 use Rattle.theory.specs.Tests.{left}
@@ -18,12 +16,12 @@ pub drop_keeps : (k : Keeper) (r : ℕ) → Keeps k (drop_result k r) (after_dro
 drop_keeps k r = go (drop_result k r)
   where
     go : (o : Result (Unit {0}) Fault) → Keeps k o (left o (λ _. ended k r RoundState.Dropped) k)
-    go (Ok a) = record { view = refl; room = refl; refused = λ f e. err_ok (sym e) }
+    go (Ok a) = record { view = refl; room = refl; refused = λ f e. cc }
     go (Err f) = record { view = refl; room = refl; refused = λ g e. refl }
 
 pub answer_keeps : (k : Keeper) (r pick size : ℕ) → Keeps k (answer_result k r pick size) (after_answer k r pick size)
 answer_keeps k r pick size = go (answer_branch k r pick size)
   where
     go : (o : Result Branch Fault) → Keeps k (map_ok {B = Unit {0}} (λ _. tt) o) (left o (λ _. ended k r RoundState.Answered) k)
-    go (Ok b) = record { view = refl; room = refl; refused = λ f e. err_ok (sym e) }
+    go (Ok b) = record { view = refl; room = refl; refused = λ f e. cc }
     go (Err f) = record { view = refl; room = refl; refused = λ g e. refl }
