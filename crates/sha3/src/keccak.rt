@@ -6,12 +6,32 @@ ghost use Rattle.sha3.specs.Keccak.{column, effect_at, θ, ρ, π, χ, keccak};
 use std::array;
 
 // Where the lane at each place after ρ and π stood before, and by how much it is turned.
-const SOURCE: [usize; 25] = [
-    0, 6, 12, 18, 24, 3, 9, 10, 16, 22, 1, 7, 13, 19, 20, 4, 5, 11, 17, 23, 2, 8, 14, 15, 21,
-];
-
-const TURN: [u32; 25] = [
-    0, 44, 43, 21, 14, 28, 20, 3, 45, 61, 1, 6, 25, 8, 18, 27, 36, 10, 15, 56, 62, 55, 39, 41, 2,
+static MOVES: [(usize, u32); 25] = [
+    (0, 0),
+    (6, 44),
+    (12, 43),
+    (18, 21),
+    (24, 14),
+    (3, 28),
+    (9, 20),
+    (10, 3),
+    (16, 45),
+    (22, 61),
+    (1, 1),
+    (7, 6),
+    (13, 25),
+    (19, 8),
+    (20, 18),
+    (4, 27),
+    (5, 36),
+    (11, 10),
+    (17, 15),
+    (23, 56),
+    (2, 62),
+    (8, 55),
+    (14, 39),
+    (15, 41),
+    (21, 2),
 ];
 
 // The sheet of each lane: a table, so that the loop over it is unrolled.
@@ -68,7 +88,10 @@ fn theta(a: &[u64; 25]) -> [u64; 25]
 fn rho_pi(a: &[u64; 25]) -> [u64; 25]
     ensures { result ≡ π (ρ a.now) }
 {
-    array::from_fn(|i| a[SOURCE[i]].rotate_left(TURN[i]))
+    array::from_fn(|i| {
+        let (source, turn) = MOVES[i];
+        a[source].rotate_left(turn)
+    })
 }
 
 fn chi(a: &[u64; 25]) -> [u64; 25]
