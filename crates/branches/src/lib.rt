@@ -2,6 +2,7 @@
 #![tactic(auto)]
 
 pub mod bytes;
+pub mod checks;
 pub mod gates;
 pub mod group;
 pub mod groups;
