@@ -6,7 +6,7 @@ ghost use Rattle.theory.specs.Verdict.{answer_formed};
 ghost use Rattle.verifier.specs.Shown.{unsealed, answer_in};
 
 use crate::first::is_marked;
-use crate::view::View;
+use crate::view::OpenedView;
 use branches::lock::OpenLock;
 use faults::{Branch, Fault, Reason};
 use kinds::kind::ElementKind;
@@ -15,8 +15,8 @@ use std::marker::Model;
 #[derive(Drop)]
 pub struct Answer<'a, K: ElementKind> {
     branch: Branch,
-    picked: View<'a, K>,
-    following: View<'a, K>,
+    picked: OpenedView<'a, K>,
+    following: OpenedView<'a, K>,
 }
 
 impl<'a, K: ElementKind> Model for Answer<'a, K> {
@@ -43,11 +43,11 @@ impl<'a, K: ElementKind> Answer<'a, K> {
         if bytes[2] != branch.number() {
             return Err(Fault::at(Reason::MalformedAnswer, 2));
         }
-        let end = 3 + lock.view_length();
+        let (picked, following) = lock.answer_views(bytes);
         Ok(Answer {
             branch,
-            picked: View::read(lock, &bytes[3..end], 3)?,
-            following: View::read(lock, &bytes[end..], end)?,
+            picked: OpenedView::read(lock, picked, 3)?,
+            following: OpenedView::read(lock, following, 3 + lock.view_length())?,
         })
     }
 
@@ -57,13 +57,13 @@ impl<'a, K: ElementKind> Answer<'a, K> {
         self.branch
     }
 
-    pub fn picked(&self) -> &View<'a, K>
+    pub fn picked(&self) -> &OpenedView<'a, K>
         ensures { result.now ≡ self.now.picked }
     {
         &self.picked
     }
 
-    pub fn following(&self) -> &View<'a, K>
+    pub fn following(&self) -> &OpenedView<'a, K>
         ensures { result.now ≡ self.now.following }
     {
         &self.following

@@ -9,7 +9,7 @@ ghost use Rattle.verifier.specs.Checks.{targets_met, after_seal, gives_shares, r
 use crate::answer::Answer;
 use crate::first::FirstMessage;
 use crate::rerun::Rerun;
-use crate::view::View;
+use crate::view::OpenedView;
 use branches::lock::OpenLock;
 use faults::{Branch, Fault, Reason};
 use kinds::kind::ElementKind;
@@ -57,7 +57,7 @@ impl<K: ElementKind, S: Sealer> Messages<'_, '_, K, S> {
     }
 
     // The view of a branch is sealed by the branch's seal.
-    fn sealed(&self, branch: Branch, view: &View<'_, K>) -> Result<(), Fault>
+    fn sealed(&self, branch: Branch, view: &OpenedView<'_, K>) -> Result<(), Fault>
         requires { length view.now.bytes ≤ S.sealing.longest }
         ensures { result ≡ after_seal S.sealing self.now branch view.now (Ok tt) }
     {

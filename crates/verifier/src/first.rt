@@ -11,7 +11,7 @@ ghost use Rattle.theory.specs.Tests.{lawful_at, unlike};
 ghost use Rattle.theory.specs.Verdict.{first_formed};
 ghost use Rattle.verifier.specs.Shown.{shown_of, shown_in, first_in, outs_of, Counted};
 
-use crate::view::View;
+use crate::view::OpenedView;
 use branches::bytes::same_bytes;
 use branches::group::Group;
 use branches::groups::group_length;
@@ -71,7 +71,7 @@ impl<'a, K: ElementKind> BranchShares<'a, K> {
     }
 
     // Is the view of the branch sealed by its seal?
-    pub(crate) fn seals<S: Sealer>(&self, sealer: &S, view: &View<'_, K>) -> bool
+    pub(crate) fn seals<S: Sealer>(&self, sealer: &S, view: &OpenedView<'_, K>) -> bool
         requires short { length view.now.bytes ≤ S.sealing.longest }
         requires sized { length self.now.seal ≡ S.sealing.size }
         ensures { result ≡ same_row (S.sealing.seal view.now.bytes) self.now.seal }

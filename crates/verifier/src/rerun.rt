@@ -9,7 +9,7 @@ ghost use Rattle.theory.specs.Tests.{unlike};
 ghost use Rattle.theory.specs.Verdict.{is_right, wrong_product};
 ghost use Rattle.verifier.specs.Running.{stepped, Takes, Starts, Ends};
 
-use crate::view::View;
+use crate::view::OpenedView;
 use branches::group::{Elements, Group};
 use branches::lock::OpenLock;
 use branches::wires::Wires;
@@ -40,7 +40,7 @@ impl<'a, 'w, K: ElementKind> Rerun<'a, 'w, K> {
     pub(crate) fn start(
         lock: &OpenLock<'_, K>,
         branch: Branch,
-        view: &View<'a, K>,
+        view: &OpenedView<'a, K>,
         work: &'w mut [u8],
     ) -> Rerun<'a, 'w, K>
         requires opened { ViewFor lock.now view.now.parts }
