@@ -66,16 +66,21 @@ fn drops_refused(rt: HostRuntime) -> Result<(), Fail> {
     Ok(())
 }
 
-// These are the three views of the worked example.
-fn worked_views(
+// Of two rounds and a byte, the first is zero, the second has the views of the worked example, and the byte is as it was.
+fn second_left(
     rt: &(impl Abort + AllocGlobal),
-    bytes: &[u8],
+    store: &[u8],
     blinds: [u8; 3],
+    behind: u8,
 ) -> Result<(), Fail> {
+    assert_eq!(rt; store.len(), 289);
+    assert!(rt; all(&store[0..144], 0));
+    let views = &store[144..288];
     let branches = [Branch::One, Branch::Two, Branch::Three];
-    for ((view, branch), blind) in bytes.chunks_exact(48).zip(branches).zip(blinds) {
+    for ((view, branch), blind) in views.chunks_exact(48).zip(branches).zip(blinds) {
         assert_eq!(rt; view, HONEST.view(rt.alloc(), branch, blind)?.as_slice());
     }
+    assert_eq!(rt; store[288], behind);
     Ok(())
 }
 
@@ -101,10 +106,7 @@ fn a_store_of_two_rounds(rt: HostRuntime) -> Result<(), Fail> {
         let mut keeper = Keeper::new(48, &mut store);
         history(&rt, &mut keeper)?;
     }
-    assert!(rt; all(&store[..144], 0));
-    worked_views(&rt, &store[144..288], [1, 2, 3])?;
-    assert_eq!(rt; store[288], 5);
-    Ok(())
+    second_left(&rt, &store, [1, 2, 3], 5)
 }
 
 // What two promises and one end of a round leave in a store of two rounds and one byte.
@@ -128,9 +130,7 @@ fn stores_left(rt: HostRuntime) -> Result<(), Fail> {
     for answered in [false, true] {
         let mut store = [9; 289];
         left(&rt, &mut store, answered)?;
-        assert!(rt; all(&store[..144], 0));
-        worked_views(&rt, &store[144..288], [5; 3])?;
-        assert_eq!(rt; store[288], 9);
+        second_left(&rt, &store, [5; 3], 9)?;
     }
     Ok(())
 }
