@@ -1,7 +1,9 @@
 -- How many rounds a store holds, and where they lie.
-use Rattle.std.proofs.Common.{◌≡◌, ℕ, suc, ◌-◌, ◌*◌, ◌/◌, ◌<◌, ◌≤◌, min, Bool, true, false, cond, ◌&&◌, leb, ◌⊎◌, length, Ok, inl, inr, mul-le-mul_right, mul_comm, mul-le-mul_left, zero-mul, mul-suc, div-mul-le_self, arith, sym, subst}
+use borrow.Rule.Slice.PartMut.{put_mid}
+use Rattle.std.specs.List.{between}
+use Rattle.std.proofs.Common.{◌≡◌, ℕ, suc, ◌+◌, ◌-◌, ◌++◌, List, take, drop, ap, ◌∙◌, drop-drop, length-drop, length-take-le, ◌*◌, ◌/◌, ◌<◌, ◌≤◌, min, Bool, true, false, cond, ◌&&◌, leb, ◌⊎◌, length, Ok, inl, inr, mul-le-mul_right, mul_comm, mul-le-mul_left, zero-mul, mul-suc, div-mul-le_self, arith, sym, subst}
 use Rattle.std.proofs.lemmas.Bool.Decides.{nat_tests}
-use Rattle.theory.specs.Store.{rounds_in, round_at}
+use Rattle.theory.specs.Store.{rounds_in, round_at, put}
 use Rattle.theory.proofs.Places.{place_laws}
 use Rattle.theory.specs.Keeper.{round_open}
 use Rattle.keeper.specs.Model.{Placed, values_of}
@@ -68,3 +70,15 @@ pub placed_here : (k : Keeper) (r : ℕ) → round_open (values_of k) r ≡ Ok t
 placed_here k r h =
     let o = open_range k.records.items r h in
     placed_in k.capacity k.view_length r (length k.store.now) (k.short (omega (arith, o.0, o.1, k.within))) o.0 (omega (arith, o.1, k.within)) k.few k.room
+
+-- `store[a..a + n]` came to hold zs
+pub put_mid_lem : (a n : ℕ) (xs ys zs : List ℕ) → ys ≡ zs → length zs ≡ n → put_mid a (a + n - a) xs ys ≡ put xs a zs
+put_mid_lem a n xs ys zs e h =
+    let k : a + n - a ≡ n = omega arith in
+    (λ i. put_mid a (k i) xs (e i)) ∙ ap (λ (l : List ℕ). take a xs ++ (zs ++ l)) (drop-drop n a xs ∙ ap (λ (m : ℕ). drop (a + m) xs) (sym h))
+
+pub long : (a n : ℕ) (xs : List ℕ) → a + n ≤ length xs → length (between a (a + n) xs) ≡ n
+long a n xs h =
+    let k : a + n - a ≡ n = omega arith in
+    let l : a + n - a ≤ length (drop a xs) = omega (arith, length-drop a xs) in
+    length-take-le (a + n - a) (drop a xs) l ∙ k

@@ -3,8 +3,8 @@ ghost use Rattle.std.specs.Prelude.{◌≡◌, length};
 ghost use Rattle.theory.specs.Keeper.{made_from, state_of, round_open, answer_branch, answer_result, answer_after, after_answer, drop_result, after_drop};
 ghost use Rattle.keeper.specs.Model.{values_of};
 
-use super::parts::{end_round, rounds_in, spend};
 use super::Keeper;
+use super::parts::{end_round, rounds_in, spend};
 use arrayvec::ArrayVec;
 use faults::{Branch, Fault, Reason};
 use theory::RoundState;

@@ -3,19 +3,18 @@ ghost use Rattle.std.specs.Prelude.{◌≡◌, ◌+◌, ◌*◌, ◌<◌, ◌≤
 ghost use Rattle.theory.specs.Runs.{next};
 ghost use Rattle.theory.specs.Messages.{answer_bytes};
 ghost use Rattle.theory.specs.Store.{rounds_in, round_at, round_length, put};
-ghost use Rattle.branches.specs.Walks.{circuit_of};
+ghost use Rattle.promises.specs.Drawn.{views_on, first_on};
 ghost use Rattle.keeper.specs.Model.{Placed, view_in};
-ghost use Rattle.keeper.specs.Promise.{round_for, first_for, Ready};
+ghost use Rattle.keeper.specs.Promise.{Ready};
 
 use branches::bytes::clear;
-use branches::groups::group_length;
+use branches::group::Group;
+use branches::lock::OpenLock;
 use faults::Branch;
 use kinds::kind::ElementKind;
 use locks::limits::LONGEST_VIEW;
-use locks::lock::Lock;
 use promises::round::write_round;
-use promises::shape::{Shape, copy_at, part};
-use promises::tape::split_tape;
+use promises::tape::Tape;
 use seals::Sealer;
 
 const MOST_ROUNDS: usize = 64;
@@ -44,25 +43,26 @@ pub(crate) fn round_start(view_length: usize, round: usize) -> usize
     3 * view_length * (round - 1)
 }
 
+// A branch's view in the round that begins at `start`.
+fn view_at(store: &[u8], start: usize, view_length: usize, branch: Branch) -> &[u8]
+    requires { start + 3 * view_length ≤ length store.now }
+    ensures { result.now ≡ view_in store.now start view_length branch }
+{
+    let at = start + view_length * branch.before();
+    &store[at..at + view_length]
+}
+
 // Mark, pick, and the views of that branch and the one after it, of the round that begins at `start`.
 fn write_answer(out: &mut [u8], store: &[u8], start: usize, view_length: usize, branch: Branch)
     requires long { length out.old ≡ 3 + 2 * view_length }
     requires room { start + 3 * view_length ≤ length store.now }
     ensures { out.new ≡ answer_bytes branch (view_in store.now start view_length branch) (view_in store.now start view_length (next branch)) }
 {
-    copy_at(out, 0, &[b'A', b'N', branch.number()]);
-    let picked = part(
-        store,
-        start + view_length * branch.before(),
-        view_length,
-    );
-    copy_at(out, 3, picked);
-    let following = part(
-        store,
-        start + view_length * branch.after().before(),
-        view_length,
-    );
-    copy_at(out, 3 + view_length, following);
+    let (head, views) = out.split_at_mut(3);
+    let (picked, following) = views.split_at_mut(view_length);
+    head.copy_from_slice(&[b'A', b'N', branch.number()]);
+    picked.copy_from_slice(view_at(store, start, view_length, branch));
+    following.copy_from_slice(view_at(store, start, view_length, branch.after()));
 }
 
 // Zeroes the round's place.
@@ -103,33 +103,25 @@ pub(crate) fn store_round<K: ElementKind, S: Sealer>(
     view_length: usize,
     round: usize,
     sealer: &S,
-    lock: Lock<'_>,
-    key: &[u8],
-    tape: &[u8],
+    lock: &OpenLock<'_, K>,
+    key: &Group<'_, K>,
+    tape: &Tape<'_, K>,
     work1: &mut [u8],
     work2: &mut [u8],
     work3: &mut [u8],
     first: &mut [u8],
 )
     requires placed { Placed view_length round (length store.old) }
-    requires ready { Ready K.ElementKind.kind S.Sealer.sealing lock view_length key.now tape.now (length work1.old) (length work2.old) (length work3.old) (length first.old) }
-    ensures store { store.new ≡ put store.old (round_at view_length round) (round_for K.ElementKind.kind (circuit_of K.ElementKind.kind lock.entry) key.now tape.now) }
-    ensures first { first.new ≡ first_for K.ElementKind.kind S.Sealer.sealing (circuit_of K.ElementKind.kind lock.entry) key.now tape.now }
+    requires ready { Ready K.ElementKind.kind S.Sealer.sealing lock.now view_length key.now tape.now (length work1.old) (length work2.old) (length work3.old) (length first.old) }
+    ensures store { store.new ≡ put store.old (round_at view_length round) (views_on K.ElementKind.kind lock.now key.now tape.now) }
+    ensures first { first.new ≡ first_on K.ElementKind.kind lock.now key.now tape.now S.Sealer.sealing }
 {
     let start = round_start(view_length, round);
-    let parts = split_tape::<K>(lock, tape);
-    let products = lock.products as usize;
-    let shape = Shape {
-        view_length,
-        products,
-        products_at: 32 + (lock.key_length::<K>() + group_length::<K>(products)),
-    };
-    write_round::<K, S>(
+    write_round(
         sealer,
         lock,
         key,
-        parts,
-        shape,
+        tape,
         work1,
         work2,
         work3,

@@ -3,8 +3,8 @@ ghost use Rattle.std.specs.Prelude.{◌≡◌, ◌≤◌, length};
 ghost use Rattle.theory.specs.Store.{rounds_in};
 ghost use Rattle.keeper.specs.Model.{values_of, resumed_from};
 
-use super::parts::rounds_in;
 use super::Keeper;
+use super::parts::rounds_in;
 use arrayvec::ArrayVec;
 use theory::RoundState;
 
