@@ -1,5 +1,5 @@
 -- A promise that passed its tests, and one whose lock was read.
-use Rattle.std.proofs.Common.{◌≡◌, ℕ, suc, ◌≤◌, Bool, true, false, eqb, ltb, leb, List, [], ◌∷◌, ◌++◌, length, Ok, Err, Result, sym, refl, ap, ◌∙◌, arith, subst}
+use Rattle.std.proofs.Common.{◌≡◌, ℕ, suc, ◌≤◌, Bool, true, false, eqb, ltb, List, [], ◌∷◌, ◌++◌, length, Ok, Err, Result, sym, refl, ap, ◌∙◌, arith, subst}
 use Rattle.faults.specs.declared.Fault.{Fault}
 use Rattle.faults.specs.declared.Reason.{Reason}
 use Rattle.faults.specs.Numbers.{fault}
@@ -12,12 +12,12 @@ use Rattle.seals.specs.Sealing.{Sealing}
 use Rattle.theory.specs.declared.RoundState.{RoundState}
 use Rattle.theory.specs.Extraction.{read_circuit}
 use Rattle.theory.specs.Keeper.{Keeper as Values, Given, given, key_right, tape_right, promise_result, first_after, after_promise, kept, own_view_bytes, own_first, promise_sizes}
-use Rattle.theory.specs.Messages.{key_of, tape_of, length_of_key, length_of_view, length_of_tape, length_of_first, length_of_work}
+use Rattle.theory.specs.Messages.{key_of, tape_of, length_of_view}
 use Rattle.theory.specs.Store.{put, round_at}
 use Rattle.theory.specs.Tests.{Verdict, both, left}
 use Rattle.promises.specs.Drawn.{Drawn, Fitting, drawn_in, views_on, first_on}
 use Rattle.keeper.specs.Model.{values_of, Placed}
-use Rattle.keeper.specs.Promise.{size_right, tested, secrets_right, promised_to, lengths_of, views_for, first_for, Ready}
+use Rattle.keeper.specs.Promise.{tested, secrets_right, promised_to, lengths_of, views_for, first_for, Ready}
 use Rattle.keeper.specs.declared.Keeper.{Keeper}
 use Rattle.keeper.proofs.Rooms.{placed_in}
 use Rattle.keeper.proofs.Tested.{Passing, passing, read_as, secrets_fit}
@@ -75,17 +75,6 @@ module _ (k : Keeper) (K : Kind) (S : Sealing) (l : Circuit (List ℕ)) (key tap
       refused (Err f) q = ap Err (err_same q)
 
 -- the tests, one behind the other, are those of the definition
-one_size : (b : Bool) (p : ℕ) (r : Verdict) → both (size_right b p) r ≡ check b (fault Reason.WrongSize p) r
-one_size true p r = refl
-one_size false p r = refl
-
-seven : (a b c d e f g : Bool)
-    → both (size_right a 0) (both (size_right b 1) (both (size_right c 2) (both (size_right d 3) (both (size_right e 4) (both (size_right f 5) (size_right g 6))))))
-    ≡ check a (fault Reason.WrongSize 0) (check b (fault Reason.WrongSize 1) (check c (fault Reason.WrongSize 2) (check d (fault Reason.WrongSize 3) (check e (fault Reason.WrongSize 4) (check f (fault Reason.WrongSize 5) (check g (fault Reason.WrongSize 6) (Ok tt)))))))
-seven a b c d e f g =
-    one_size a 0 _ ∙ ap (check a (fault Reason.WrongSize 0)) (one_size b 1 _ ∙ ap (check b (fault Reason.WrongSize 1)) (one_size c 2 _ ∙ ap (check c (fault Reason.WrongSize 2))
-    (one_size d 3 _ ∙ ap (check d (fault Reason.WrongSize 3)) (one_size e 4 _ ∙ ap (check e (fault Reason.WrongSize 4)) (one_size f 5 _)))))
-
 last_tests : (v : Verdict) (a b : Bool) (d f : Fault) (n : ℕ) (key tape : Verdict)
     → and_then (and_then v (λ _. check a d (check b f (Ok n)))) (λ r. and_then (both key tape) (λ _. Ok r)) ≡ and_then v (λ _. check a d (check b f (and_then key (λ _. and_then tape (λ _. Ok n)))))
 last_tests (Ok x) true true d f n (Ok y) tape = refl
@@ -111,11 +100,7 @@ module _ (k : Values) (K : Kind) (S : Sealing) (bytes key tape : List ℕ) (w1 w
   module _ (l : Circuit (List ℕ)) (read : Ok l ≡ lock_of K bytes) where
     pub promised_is : promised_to k K S l key tape (lengths_of (length key) (length tape) w1 w2 w3 first) ≡ promise_result k g
     promised_is =
-        (λ i. and_then (and_then (seven (leb (length_of_view K l) S.longest) (eqb (length key) (length_of_key K l)) (eqb (length tape) (length_of_tape K l))
-        (leb (length_of_work K l) w1) (leb (length_of_work K l) w2) (leb (length_of_work K l) w3) (eqb first (length_of_first K l S.size)) i)
-        (λ _. check (eqb (length_of_view K l) k.view_size) (fault Reason.WrongSize 7) (check (ltb (length k.table) k.capacity) (fault Reason.KeeperFull k.capacity) (Ok (suc (length k.table))))))
-        (λ r. and_then (secrets_right K l key tape) (λ _. Ok r)))
-        ∙ last_tests _ (eqb (length_of_view K l) k.view_size) (ltb (length k.table) k.capacity) (fault Reason.WrongSize 7) (fault Reason.KeeperFull k.capacity) (suc (length k.table)) (key_right K l (key_of K l key)) (tape_right K l (tape_of K l tape))
+        last_tests _ (eqb (length_of_view K l) k.view_size) (ltb (length k.table) k.capacity) (fault Reason.WrongSize 7) (fault Reason.KeeperFull k.capacity) (suc (length k.table)) (key_right K l (key_of K l key)) (tape_right K l (tape_of K l tape))
         ∙ ap (λ (r : Result (Circuit (List ℕ)) Fault). and_then r (promised_for k g)) read
 
     circuit_is : l ≡ read_circuit (lock_of K bytes)

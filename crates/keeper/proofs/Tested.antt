@@ -1,5 +1,5 @@
 -- The tests of a promise: what they tell where they pass.
-use Rattle.std.proofs.Common.{◌≡◌, ℕ, suc, ◌*◌, ◌<◌, ◌≤◌, Bool, true, eqb, ltb, List, length, drop, Ok, Err, sym, refl, ltb-true, eqb-true, leb-true, arith, length-drop}
+use Rattle.std.proofs.Common.{◌≡◌, ℕ, suc, ◌*◌, ◌<◌, ◌≤◌, eqb, ltb, List, length, drop, Ok, Err, sym, refl, ltb-true, eqb-true, leb-true, arith, length-drop}
 use Rattle.std.proofs.lemmas.List.{length-take-le}
 use Rattle.faults.specs.declared.Branch.{Branch}
 use Rattle.faults.specs.declared.Branch.TheVariants.{One as one, Two as two, Three as three}
@@ -10,24 +10,14 @@ use Rattle.faults.proofs.Passed.{err_ok, ok_same, check_ok, then_ok}
 use Rattle.kinds.specs.Kind.{Kind}
 use Rattle.locks.specs.Circuit.{Circuit}
 use Rattle.seals.specs.Sealing.{Sealing}
-use Rattle.theory.specs.Tests.{Verdict, both}
+use Rattle.theory.specs.Tests.{Verdict}
 use Rattle.theory.specs.Keeper.{Keeper as Values}
 use Rattle.theory.specs.Messages.{key_of, length_of_key, length_of_view, length_of_tape, length_of_first, length_of_work}
 use Rattle.theory.proofs.Groups.{counted}
 use Rattle.theory.proofs.Parts.{tape_for}
 use Rattle.promises.specs.Drawn.{Fitting, blind_on, drawn_in}
-use Rattle.keeper.specs.Promise.{size_right, sizes_right, next_round, tested}
+use Rattle.keeper.specs.Promise.{sizes_right, next_round, tested}
 use Rattle.keeper.specs.declared.tests.Lengths.{Lengths}
-
-both_ok : (r s : Verdict) → both r s ≡ Ok tt → (r ≡ Ok tt) × (s ≡ Ok tt)
-both_ok (Ok x) s h = (refl, h)
-both_ok (Err e) s h = err_ok h
-
-size_ok : (b : Bool) (p : ℕ) → size_right b p ≡ Ok tt → b ≡ true
-size_ok b p h = (check_ok b (fault Reason.WrongSize p) (Ok tt) tt h).0
-
-pub three_passed : (a b c d : Verdict) → a ≡ Ok tt → b ≡ Ok tt → c ≡ Ok tt → d ≡ both a (both b (both c d))
-three_passed a b c d p q r = sym (λ i. both (p i) (both (q i) (both (r i) d)))
 
 -- what is known where the tests that look at no secret have passed, and r is the round
 pub record Passing (k : Values) (K : Kind) (S : Sealing) (l : Circuit (List ℕ)) (n : Lengths) (r : ℕ) : Type 0 where
@@ -45,22 +35,23 @@ pub record Passing (k : Values) (K : Kind) (S : Sealing) (l : Circuit (List ℕ)
 pub passing : (k : Values) (K : Kind) (S : Sealing) (l : Circuit (List ℕ)) (n : Lengths) (r : ℕ) → tested k K S l n ≡ Ok r → Passing k K S l n r
 passing k K S l n r h =
     let sizes = then_ok (sizes_right K S l n) _ r h in
-    let a = both_ok _ _ sizes.1 in
-    let b = both_ok _ _ a.1 in
-    let c = both_ok _ _ b.1 in
-    let d = both_ok _ _ c.1 in
-    let e = both_ok _ _ d.1 in
-    let f = both_ok _ _ e.1 in
+    let a = check_ok _ _ _ tt sizes.1 in
+    let b = check_ok _ _ _ tt a.1 in
+    let c = check_ok _ _ _ tt b.1 in
+    let d = check_ok _ _ _ tt c.1 in
+    let e = check_ok _ _ _ tt d.1 in
+    let f = check_ok _ _ _ tt e.1 in
+    let last = check_ok _ _ _ tt f.1 in
     let view = check_ok (eqb (length_of_view K l) k.view_size) (fault Reason.WrongSize 7) (next_round k) r sizes.2 in
     let next = check_ok (ltb (length k.table) k.capacity) (fault Reason.KeeperFull k.capacity) (Ok (suc (length k.table))) r view.1 in
     record {
-      short = leb-true (length_of_view K l) S.longest (size_ok _ 0 a.0);
-      key = eqb-true n.key (length_of_key K l) (size_ok _ 1 b.0);
-      tape = eqb-true n.tape (length_of_tape K l) (size_ok _ 2 c.0);
-      room1 = leb-true (length_of_work K l) n.work1 (size_ok _ 3 d.0);
-      room2 = leb-true (length_of_work K l) n.work2 (size_ok _ 4 e.0);
-      room3 = leb-true (length_of_work K l) n.work3 (size_ok _ 5 f.0);
-      first = eqb-true n.first (length_of_first K l S.size) (size_ok _ 6 f.1);
+      short = leb-true (length_of_view K l) S.longest a.0;
+      key = eqb-true n.key (length_of_key K l) b.0;
+      tape = eqb-true n.tape (length_of_tape K l) c.0;
+      room1 = leb-true (length_of_work K l) n.work1 d.0;
+      room2 = leb-true (length_of_work K l) n.work2 e.0;
+      room3 = leb-true (length_of_work K l) n.work3 f.0;
+      first = eqb-true n.first (length_of_first K l S.size) last.0;
       long = eqb-true (length_of_view K l) k.view_size view.0;
       free = ltb-true (length k.table) k.capacity next.0;
       number = ok_same next.1;

@@ -1,5 +1,5 @@
 -- The tests of a promise, and what it writes, for a lock with circuit l.
-use Rattle.std.specs.Prelude.{◌≡◌, ◌≤◌, ℕ, suc, Bool, List, length, Ok, Result, ◌==◌, nat_le, nat_lt}
+use Rattle.std.specs.Prelude.{◌≡◌, ◌≤◌, ℕ, suc, List, length, Ok, Result, ◌==◌, nat_le, nat_lt}
 use Rattle.faults.specs.declared.Branch.{Branch}
 use Rattle.faults.specs.declared.Fault.{Fault}
 use Rattle.faults.specs.declared.Reason.{Reason}
@@ -14,23 +14,16 @@ use Rattle.theory.specs.Keeper.{Keeper, key_right, tape_right}
 use Rattle.promises.specs.Drawn.{Drawn, Fitting, drawn_in, view_on, views_on, first_on}
 use Rattle.keeper.specs.declared.tests.Lengths.{Lengths}
 
-abbrev pub size_right : Bool → ℕ → Verdict
-size_right b p = check b (fault Reason.WrongSize p) (Ok tt)
-
-module _ (K : Kind) (S : Sealing) (l : Circuit (List ℕ)) where
-  abbrev pub buffers_right : Lengths → Verdict
-  buffers_right n =
-      both (size_right (nat_le (length_of_work K l) n.work1) 3)
-      (both (size_right (nat_le (length_of_work K l) n.work2) 4)
-      (both (size_right (nat_le (length_of_work K l) n.work3) 5)
-      (size_right (n.first == length_of_first K l S.size) 6)))
-
-  abbrev pub sizes_right : Lengths → Verdict
-  sizes_right n =
-      both (size_right (nat_le (length_of_view K l) S.longest) 0)
-      (both (size_right (n.key == length_of_key K l) 1)
-      (both (size_right (n.tape == length_of_tape K l) 2)
-      (buffers_right n)))
+-- 7, but for the keeper's view length
+abbrev pub sizes_right : Kind → Sealing → Circuit (List ℕ) → Lengths → Verdict
+sizes_right K S l n =
+    check (nat_le (length_of_view K l) S.longest) (fault Reason.WrongSize 0)
+    (check (n.key == length_of_key K l) (fault Reason.WrongSize 1)
+    (check (n.tape == length_of_tape K l) (fault Reason.WrongSize 2)
+    (check (nat_le (length_of_work K l) n.work1) (fault Reason.WrongSize 3)
+    (check (nat_le (length_of_work K l) n.work2) (fault Reason.WrongSize 4)
+    (check (nat_le (length_of_work K l) n.work3) (fault Reason.WrongSize 5)
+    (check (n.first == length_of_first K l S.size) (fault Reason.WrongSize 6) (Ok tt)))))))
 
 -- the number of the next round
 abbrev pub next_round : Keeper → Result ℕ Fault

@@ -3,11 +3,12 @@ ghost use Rattle.std.specs.Prelude.{◌≡◌, ◌≤◌, length};
 ghost use Rattle.faults.specs.Outcomes.{map_ok};
 ghost use Rattle.theory.specs.Messages.{key_of, length_of_key, length_of_tape, length_of_work};
 ghost use Rattle.promises.specs.Drawn.{drawn_in};
-ghost use Rattle.keeper.specs.Promise.{size_right, buffers_right, sizes_right, secrets_right};
+ghost use Rattle.keeper.specs.Promise.{sizes_right, secrets_right};
 
+use branches::checks::size_right;
 use branches::group::Group;
 use branches::lock::OpenLock;
-use faults::{Fault, Reason};
+use faults::Fault;
 use kinds::kind::ElementKind;
 use promises::key::read_key;
 use promises::tape::Tape;
@@ -24,39 +25,19 @@ pub struct Lengths {
     pub first: usize,
 }
 
-fn test_size(right: bool, place: usize) -> Result<(), Fault>
-    ensures { result ≡ size_right right place }
-{
-    if right {
-        Ok(())
-    } else {
-        Err(Fault::at(Reason::WrongSize, place))
-    }
-}
-
-fn test_buffers<K: ElementKind, S: Sealer>(
-    lock: &OpenLock<'_, K>,
-    given: Lengths,
-) -> Result<(), Fault>
-    ensures { result ≡ buffers_right K.ElementKind.kind S.Sealer.sealing lock.now given }
-{
-    let work = lock.work_length();
-    test_size(work <= given.work1, 3)?;
-    test_size(work <= given.work2, 4)?;
-    test_size(work <= given.work3, 5)?;
-    test_size(given.first == lock.first_length(S::LENGTH as u8), 6)
-}
-
 pub(crate) fn test_sizes<K: ElementKind, S: Sealer>(
     lock: &OpenLock<'_, K>,
     given: Lengths,
 ) -> Result<(), Fault>
     ensures { result ≡ sizes_right K.ElementKind.kind S.Sealer.sealing lock.now given }
 {
-    test_size(lock.view_length() <= S::LONGEST, 0)?;
-    test_size(given.key == lock.key_length(), 1)?;
-    test_size(given.tape == lock.tape_length(), 2)?;
-    test_buffers::<K, S>(lock, given)
+    size_right(lock.view_length() <= S::LONGEST, 0)?;
+    size_right(given.key == lock.key_length(), 1)?;
+    size_right(given.tape == lock.tape_length(), 2)?;
+    size_right(given.work1 >= lock.work_length(), 3)?;
+    size_right(given.work2 >= lock.work_length(), 4)?;
+    size_right(given.work3 >= lock.work_length(), 5)?;
+    size_right(given.first == lock.first_length(S::LENGTH as u8), 6)
 }
 
 // The key, then the tape.

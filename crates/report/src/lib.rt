@@ -69,7 +69,9 @@ fn report_as<K: ElementKind>(heap: Global, bytes: &[u8]) -> Result<String, Alloc
 pub fn report(heap: Global, bytes: &[u8]) -> Result<String, AllocError>
     ensures { IfOk result (λ t. string_bytes t ≡ report_of bytes.now) }
 {
-    let name = bytes.get(2).and_then(|number| KindName::try_from(*number).ok());
+    let name = bytes
+        .get(2)
+        .and_then(|number| KindName::try_from(*number).ok());
     match name.unwrap_or(KindName::Word) {
         KindName::Bit => report_as::<Bit>(heap, bytes),
         KindName::Word => report_as::<Word>(heap, bytes),

@@ -13,14 +13,18 @@ use Rattle.promises.proofs.round.write_views.Goals as goal
 
 pub write_front-requires : goal.write_front-requires
 write_front-requires g c =
-    let b = c.requires.fitting.blinded one in
+    let a = c.requires.fitting.blinded one in
+    let b = c.requires.fitting.blinded two in
     let m = c.requires.fitting.taped.masked one in
+    let n = c.requires.fitting.taped.masked two in
     search rules
 
 pub write_front-requires-2 : goal.write_front-requires-2
 write_front-requires-2 g c =
+    let a = c.requires.fitting.blinded one in
     let b = c.requires.fitting.blinded two in
-    let m = c.requires.fitting.taped.masked two in
+    let m = c.requires.fitting.taped.masked one in
+    let n = c.requires.fitting.taped.masked two in
     search rules
 
 pub lawful-third_shares-requires-clause-lawful : goal.lawful-third_shares-requires-clause-lawful
