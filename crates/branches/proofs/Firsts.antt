@@ -1,6 +1,7 @@
 -- The first wrong one, found by going through a list from the front.
-use Rattle.std.proofs.Common.{◌≡◌, ℕ, suc, ◌+◌, ◌<◌, ◌≤◌, Bool, true, false, cond, not, eqb, List, [], ◌∷◌, length, get_or, drop, is_some, Some, None, Option, sym, refl, ap, ◌∙◌, ap₂, add-zero, arith}
-use Rattle.std.specs.List.{AllByRecursion}
+use Rattle.std.proofs.Common.{◌≡◌, ℕ, suc, ◌+◌, ◌<◌, ◌≤◌, Bool, true, false, cond, not, eqb, position, nat_lt, List, [], ◌∷◌, length, get_or, drop, is_some, Some, None, Option, sym, refl, ap, ◌∙◌, ap₂, add-zero, arith, ◌&&◌}
+use Rattle.std.specs.List.{AllByRecursion, zip, position_or_len}
+use Rattle.std.proofs.lemmas.Bool.Decides.{nat_tests}
 use Rattle.std.proofs.lemmas.List.{drop_more, drop_all}
 use Rattle.kinds.specs.Kind.{Kind, Lawful, same_row}
 use Rattle.theory.specs.Algebra.{ops_of}
@@ -51,21 +52,13 @@ unlike_here xs ys j d h k = ap₂ unlike (drop_more xs j d h) (drop_more ys j d 
 pub unlike_end : (xs ys : List (List ℕ)) (j : ℕ) → length xs ≤ j → length ys ≤ j → from j (unlike (drop j xs) (drop j ys)) ≡ None
 unlike_end xs ys j h k = ap (from j) (ap₂ unlike (drop_all j xs h) (drop_all j ys k))
 
--- bytes that differ
-pub differ_here : (xs ys : List ℕ) (j : ℕ) → j < length xs → j < length ys
-    → differ (drop j xs) (drop j ys) ≡ cond (eqb (get_or xs j 0) (get_or ys j 0)) (later (differ (drop (j + 1) xs) (drop (j + 1) ys))) (Some 0)
-differ_here xs ys j h k = ap₂ differ (drop_more xs j 0 h) (drop_more ys j 0 k)
-
-pub differ_end : (xs ys : List ℕ) (j : ℕ) → length xs ≤ j → length ys ≤ j → from j (differ (drop j xs) (drop j ys)) ≡ None
-differ_end xs ys j h k = ap (from j) (ap₂ differ (drop_all j xs h) (drop_all j ys k))
-
 -- no offset is left exactly where the bytes are the same
 pub differ_same : (xs ys : List ℕ) → not (is_some (differ xs ys)) ≡ same_row xs ys
 differ_same [] [] = refl
 differ_same [] (y ∷ ys) = refl
 differ_same (x ∷ xs) [] = refl
 differ_same (x ∷ xs) (y ∷ ys) = by (eqb x y) (differ xs ys) (differ_same xs ys) where
-  by : (b : Bool) (o : Option ℕ) → not (is_some o) ≡ same_row xs ys → not (is_some (cond b (later o) (Some 0))) ≡ cond b (same_row xs ys) false
+  by : (b : Bool) (o : Option ℕ) → not (is_some o) ≡ same_row xs ys → not (is_some (cond b (later o) (Some 0))) ≡ b && same_row xs ys
   by true None e = e
   by true (Some i) e = e
   by false o e = refl
@@ -96,3 +89,45 @@ module _ (xs ys : List (List ℕ)) (j : ℕ) (x y d : List ℕ) (b : Bool) (whol
 
   pub unlike_found : b ≡ false → Some j ≡ whole
   unlike_found t = first_failed j (same_row (get_or xs j d) (get_or ys j d)) _ _ (unlike_here xs ys j d h k) (told ∙ t) ∙ inv
+
+not_of : (n e : Bool) → n ≡ not e → (b : Bool) → n ≡ b → e ≡ not b
+not_of n true is true h = sym h ∙ is
+not_of n true is false h = refl
+not_of n false is true h = refl
+not_of n false is false h = sym h ∙ is
+
+-- The same where the left rows are walked from the front and the right ones are read by number: z is the next on the left, and `n` says
+-- whether the elements with the rows x and y differ.
+module _ (K : Kind) (j i : ℕ) (x y z : List ℕ) (n equal : Bool) (xs zs ys : List (List ℕ)) (h : j < length ys) (front : zs ≡ z ∷ xs) (at : i ≡ j)
+    (is_x : x ≡ z) (is_y : y ≡ read (ops_of K) ys i) (ne : n ≡ not equal) (eq : equal ≡ same_row x y) where
+  here : unlike zs (drop j ys) ≡ cond (same_row z (read (ops_of K) ys j)) (later (unlike xs (drop (j + 1) ys))) (Some 0)
+  here = ap₂ unlike front (drop_more ys j K.zero h)
+
+  test : same_row z (read (ops_of K) ys j) ≡ equal
+  test = sym (eq ∙ (λ t. same_row (is_x t) (is_y t)) ∙ ap (λ (k : ℕ). same_row z (read (ops_of K) ys k)) at)
+
+  pub walked_alike : n ≡ false → from (j + 1) (unlike xs (drop (j + 1) ys)) ≡ from j (unlike zs (drop j ys))
+  walked_alike f = first_passed j (same_row z (read (ops_of K) ys j)) (unlike zs (drop j ys)) (unlike xs (drop (j + 1) ys)) here (test ∙ not_of n equal ne false f)
+
+  pub walked_unlike : n ≡ true → Some i ≡ from j (unlike zs (drop j ys))
+  walked_unlike t = ap Some at ∙ first_failed j (same_row z (read (ops_of K) ys j)) (unlike zs (drop j ys)) (unlike xs (drop (j + 1) ys)) here (test ∙ not_of n equal ne true t)
+
+-- the first pair of unlike bytes
+pub differ_position : (xs ys : List ℕ) → length xs ≡ length ys → position (λ p. not (eqb p.0 p.1)) (zip xs ys) ≡ differ xs ys
+differ_position [] [] e = refl
+differ_position [] (y ∷ ys) e = absurd (omega arith)
+differ_position (x ∷ xs) [] e = absurd (omega arith)
+differ_position (x ∷ xs) (y ∷ ys) e =
+    by (eqb x y) (position_or_len (λ p. not (eqb p.0 p.1)) (zip xs ys)) (length (zip xs ys)) (differ xs ys) (differ_position xs ys (omega arith))
+  where
+    further : (b : Bool) (n : ℕ) (o : Option ℕ) → cond b (Some n) None ≡ o → cond b (Some (1 + n)) None ≡ later o
+    further true n o h = let e : 1 + n ≡ suc n = omega arith in ap Some e ∙ ap later h
+    further false n o h = ap later h
+
+    below : (n m : ℕ) → nat_lt (1 + n) (suc m) ≡ nat_lt n m
+    below n m = grind (arith, nat_tests)
+
+    by : (b : Bool) (n m : ℕ) (o : Option ℕ) → cond (nat_lt n m) (Some n) None ≡ o
+        → cond (nat_lt (cond (not (not b)) (1 + n) 0) (suc m)) (Some (cond (not (not b)) (1 + n) 0)) None ≡ cond b (later o) (Some 0)
+    by true n m o h = ap (λ t. cond t (Some (1 + n)) None) (below n m) ∙ further (nat_lt n m) n o h
+    by false n m o h = let t : nat_lt 0 (suc m) ≡ true = grind (arith, nat_tests) in ap (λ b. cond b (Some 0) None) t

@@ -1,15 +1,16 @@
 -- Elements in a group: where they lie, and what a write leaves.
-use Rattle.std.proofs.Common.{◌≡◌, ℕ, zero, suc, ◌+◌, ◌*◌, ◌<◌, ◌≤◌, false, List, [], ◌∷◌, ◌++◌, length, take, drop, set, is_some, Some, None, Option, sym, ap, ◌∙◌, subst, suc-mul, zero-mul, add-one, arith, length-drop, take-take, drop-drop, take_at, drop_at, MatchOption}
+use Rattle.std.proofs.Common.{◌≡◌, ℕ, zero, suc, ◌+◌, ◌*◌, ◌<◌, ◌≤◌, false, List, [], ◌∷◌, ◌++◌, length, get_or, take, drop, set, ⊎_elim, ◌≢◌, is_some, Some, None, Option, sym, ap, ◌∙◌, subst, suc-mul, zero-mul, add-one, arith, length-drop, take-take, drop-drop, take_at, drop_at, MatchOption}
 use lib.Seq.{take-append-le, drop-append-le}
 use Rattle.std.specs.List.{AllByRecursion}
-use Rattle.std.proofs.lemmas.List.{get_or_default, drop-take, length-take-le, take_more, take_all}
+use Rattle.std.proofs.lemmas.Bool.{cases_eq}
+use Rattle.std.proofs.lemmas.List.{get_or_default, get_or-set_same, get_or-set_other, same_lists, drop-take, length-take-le, take_more, take_all}
 use Rattle.std.proofs.lemmas.Slice.{drop-put_mid}
 use Rattle.kinds.specs.Kind.{Kind, Lawful}
 use Rattle.kinds.specs.Groups.{group_length}
 use Rattle.theory.specs.Algebra.{ops_of}
 use Rattle.theory.specs.Runs.{read}
-use Rattle.theory.specs.Groups.{group, element_at}
-use Rattle.theory.proofs.Groups.{counted, placed}
+use Rattle.theory.specs.Groups.{group, group_bytes, element_at}
+use Rattle.theory.proofs.Groups.{counted, placed, written_read}
 use Rattle.branches.specs.Rows.{row_at, put_row}
 use Rattle.branches.specs.Wires.{wires_in}
 use Rattle.branches.proofs.RowLemmas.{row_below, all_get}
@@ -85,3 +86,29 @@ module _ (K : Kind) (n i : ℕ) (bs : List ℕ) where
   wires_all work e inv =
       let past : length (group K n bs) ≤ i = omega (arith, counted K n bs) in
       ap (λ (m : ℕ). wires_in K m work) (sym e) ∙ inv ∙ take_all i (group K n bs) past
+
+-- what holds below i and at i
+pub one_more : (P : ℕ → Type 0) (i : ℕ) → ((k : ℕ) → k < i → P k) → P i → (k : ℕ) → k < i + 1 → P k
+one_more P i h last k lt = ⊎_elim (λ e. subst P (sym e) last) (λ ne. h k (omega arith)) (cases_eq k i)
+
+module _ (K : Kind) (n : ℕ) where
+  -- element i was written
+  module _ (i : ℕ) (row bs bs' : List ℕ) (put : group K n bs' ≡ set (group K n bs) i row) where
+    pub element_put : i < n → read (ops_of K) (group K n bs') i ≡ row
+    element_put h =
+        let lt : i < length (group K n bs) = omega (arith, counted K n bs) in
+        ap (λ (l : List (List ℕ)). read (ops_of K) l i) put ∙ get_or-set_same (group K n bs) i row K.zero lt
+
+    pub element_kept : (k : ℕ) → k ≢ i → read (ops_of K) (group K n bs') k ≡ read (ops_of K) (group K n bs) k
+    element_kept k ne = ap (λ (l : List (List ℕ)). read (ops_of K) l k) put ∙ get_or-set_other (group K n bs) i k row K.zero ne
+
+  -- bytes that hold n elements are their bytes
+  pub written : (bs : List ℕ) (es : List (List ℕ)) → length bs ≡ group_length K n → length es ≡ n
+      → ((i : ℕ) → i < n → read (ops_of K) (group K n bs) i ≡ read (ops_of K) es i) → bs ≡ group_bytes K es
+  written bs es sized long h =
+      sym (written_read K n bs sized) ∙ ap (group_bytes K) (same_lists (group K n bs) es (counted K n bs ∙ sym long) each)
+    where
+      each : (k : ℕ) (d : List ℕ) → k < length (group K n bs) → get_or (group K n bs) k d ≡ get_or es k d
+      each k d lt =
+          let below : k < n = omega (arith, counted K n bs) in
+          get_or_default (group K n bs) k d K.zero lt ∙ h k below ∙ get_or_default es k K.zero d (omega arith)

@@ -4,3 +4,6 @@ pub mod StepLemmas
 pub mod Firsts
 pub mod ViewLemmas
 pub mod Walked
+pub mod WalkSteps
+pub mod HoldingLemmas
+pub mod FilledLemmas

@@ -25,10 +25,10 @@ is_ok : {A : Type 0} (r : Result A Fault) (a : A) → r ≡ Ok a → isOk r ≡ 
 is_ok r a e = ap isOk e
 
 module _ (K : Kind) where
-  -- one gate, and the others
-  module _ (n own : ℕ) (s : Standing) (l : GatesStand K (suc n) own s) where
+  -- one gate more: it is there, and so are the others
+  module _ (n : ℕ) (s : Standing) (walked : isOk (gates_in K (suc n) s.at s.rest) ≡ true) where
     split : (G : Records (Gate (List ℕ))) × (gates_in K (suc n) s.at s.rest ≡ Ok G)
-    split = ok_is (gates_in K (suc n) s.at s.rest) l.walked
+    split = ok_is (gates_in K (suc n) s.at s.rest) walked
 
     parts : (g : Gate (List ℕ)) × (gate_in K s.at s.rest ≡ Ok g)
         × ((R : Records (Gate (List ℕ))) × (gates_in K n (s.at + gate_size K g) (drop (gate_size K g) s.rest) ≡ Ok R))
@@ -38,9 +38,8 @@ module _ (K : Kind) where
         let m = map_ok_was (in_front a.0) (gates_in K n (s.at + gate_size K a.0) (drop (gate_size K a.0) s.rest)) split.0 a.2 in
         (a.0, a.1, (m.0, m.1))
 
-    -- it is there
-    pub gate_there : isOk (gate_in K s.at s.rest) ≡ true
-    gate_there = ap isOk parts.1
+    pub gate_walked : isOk (gate_in K s.at s.rest) ≡ true
+    gate_walked = ap isOk parts.1
 
     module _ (g : Gate (List ℕ)) (is : gate_in K s.at s.rest ≡ Ok g) where
       same : parts.0 ≡ g
@@ -49,12 +48,24 @@ module _ (K : Kind) where
       rest_ok : (R : Records (Gate (List ℕ))) × (gates_in K n (s.at + gate_size K g) (drop (gate_size K g) s.rest) ≡ Ok R)
       rest_ok = subst (λ (x : Gate (List ℕ)). (R : Records (Gate (List ℕ))) × (gates_in K n (s.at + gate_size K x) (drop (gate_size K x) s.rest) ≡ Ok R)) same parts.2
 
-      pub gates_one : gates_at K (suc n) s ≡ g ∷ gates_at K n (behind (gate_size K g) s)
+      pub gate_first : gates_at K (suc n) s ≡ g ∷ gates_at K n (behind (gate_size K g) s)
       unfolding gates_at gates_in
-      gates_one =
+      gate_first =
           ap (λ (r : Result (Gate (List ℕ)) Fault). items_of (and_then r (λ x. map_ok (in_front x) (gates_in K n (s.at + gate_size K x) (drop (gate_size K x) s.rest))))) is
           ∙ ap (λ (r : Result (Records (Gate (List ℕ))) Fault). items_of (map_ok (in_front g) r)) rest_ok.1
           ∙ ap (λ (r : Result (Records (Gate (List ℕ))) Fault). g ∷ items_of r) (sym rest_ok.1)
+
+      pub others_walked : isOk (gates_in K n (s.at + gate_size K g) (drop (gate_size K g) s.rest)) ≡ true
+      others_walked = ap isOk rest_ok.1
+
+  -- the same, with what is known of the gates
+  module _ (n own : ℕ) (s : Standing) (l : GatesStand K (suc n) own s) where
+    pub gate_there : isOk (gate_in K s.at s.rest) ≡ true
+    gate_there = gate_walked n s l.walked
+
+    module _ (g : Gate (List ℕ)) (is : gate_in K s.at s.rest ≡ Ok g) where
+      pub gates_one : gates_at K (suc n) s ≡ g ∷ gates_at K n (behind (gate_size K g) s)
+      gates_one = gate_first n s l.walked g is
 
       both_for : GateFor K own g × GatesFor K (suc own) (gates_at K n (behind (gate_size K g) s))
       both_for = subst (GatesFor K own) gates_one l.for
@@ -63,7 +74,7 @@ module _ (K : Kind) where
       gate_for = both_for.0
 
       pub gates_left : GatesStand K n (suc own) (behind (gate_size K g) s)
-      gates_left = record { walked = ap isOk rest_ok.1; for = both_for.1 }
+      gates_left = record { walked = others_walked n s l.walked g is; for = both_for.1 }
 
   pub gates_none : (s : Standing) → gates_at K 0 s ≡ []
   unfolding gates_at gates_in
@@ -73,10 +84,10 @@ module _ (K : Kind) where
   unfolding outputs_at outputs_in
   outputs_none s = refl
 
-  -- one output, and the others
-  module _ (n wires : ℕ) (s : Standing) (l : OutputsStand K (suc n) wires s) where
+  -- one output more: it is there, and so are the others
+  module _ (n : ℕ) (s : Standing) (walked : isOk (outputs_in K (suc n) s.at s.rest) ≡ true) where
     out_split : (U : Records (Output (List ℕ))) × (outputs_in K (suc n) s.at s.rest ≡ Ok U)
-    out_split = ok_is (outputs_in K (suc n) s.at s.rest) l.walked
+    out_split = ok_is (outputs_in K (suc n) s.at s.rest) walked
 
     out_parts : (u : Output (List ℕ)) × (output_in K s.at s.rest ≡ Ok u)
         × ((R : Records (Output (List ℕ))) × (outputs_in K n (s.at + output_size K) (drop (output_size K) s.rest) ≡ Ok R))
@@ -86,17 +97,29 @@ module _ (K : Kind) where
         let m = map_ok_was (in_front a.0) (outputs_in K n (s.at + output_size K) (drop (output_size K) s.rest)) out_split.0 a.2 in
         (a.0, a.1, (m.0, m.1))
 
-    pub output_there : isOk (output_in K s.at s.rest) ≡ true
-    output_there = ap isOk out_parts.1
+    pub output_walked : isOk (output_in K s.at s.rest) ≡ true
+    output_walked = ap isOk out_parts.1
+
+    pub other_outputs_walked : isOk (outputs_in K n (s.at + output_size K) (drop (output_size K) s.rest)) ≡ true
+    other_outputs_walked = ap isOk out_parts.2.1
 
     module _ (u : Output (List ℕ)) (is : output_in K s.at s.rest ≡ Ok u) where
-      pub outputs_one : outputs_at K (suc n) s ≡ u ∷ outputs_at K n (behind (output_size K) s)
+      pub output_first : outputs_at K (suc n) s ≡ u ∷ outputs_at K n (behind (output_size K) s)
       unfolding outputs_at outputs_in
-      outputs_one =
+      output_first =
           let more = out_parts.2 in
           ap (λ (r : Result (Output (List ℕ)) Fault). items_of (and_then r (λ x. map_ok (in_front x) (outputs_in K n (s.at + output_size K) (drop (output_size K) s.rest))))) is
           ∙ ap (λ (r : Result (Records (Output (List ℕ))) Fault). items_of (map_ok (in_front u) r)) more.1
           ∙ ap (λ (r : Result (Records (Output (List ℕ))) Fault). u ∷ items_of r) (sym more.1)
+
+  -- the same, with what is known of the outputs
+  module _ (n wires : ℕ) (s : Standing) (l : OutputsStand K (suc n) wires s) where
+    pub output_there : isOk (output_in K s.at s.rest) ≡ true
+    output_there = output_walked n s l.walked
+
+    module _ (u : Output (List ℕ)) (is : output_in K s.at s.rest ≡ Ok u) where
+      pub outputs_one : outputs_at K (suc n) s ≡ u ∷ outputs_at K n (behind (output_size K) s)
+      outputs_one = output_first n s l.walked u is
 
       out_both : OutputFor K wires u × AllByRecursion (OutputFor K wires) (outputs_at K n (behind (output_size K) s))
       out_both = subst (AllByRecursion (OutputFor K wires)) outputs_one l.for
@@ -105,7 +128,7 @@ module _ (K : Kind) where
       output_for = out_both.0
 
       pub outputs_left : OutputsStand K n wires (behind (output_size K) s)
-      outputs_left = record { walked = ap isOk out_parts.2.1; for = out_both.1 }
+      outputs_left = record { walked = other_outputs_walked n s l.walked; for = out_both.1 }
 
   -- what gates leave is a rear part of the bytes
   gates_rest : (n at : ℕ) (xs : List ℕ) (G : Records (Gate (List ℕ))) → gates_in K n at xs ≡ Ok G → (d : ℕ) × (d ≤ length xs) × (G.rest ≡ drop d xs)

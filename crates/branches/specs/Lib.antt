@@ -1,5 +1,6 @@
 pub mod Rows
 pub mod Wires
-pub mod Named
 pub mod Walks
+pub mod Holding
+pub mod Filled
 pub mod Views

@@ -1,11 +1,14 @@
 -- A view's parts as the code holds them, and the view that they say.
-use Rattle.std.specs.Prelude.{ℕ, ◌≤◌, List, length, drop}
+use Rattle.std.specs.Prelude.{ℕ, ◌+◌, ◌≤◌, List, length, drop}
 use Rattle.std.specs.List.{AllByRecursion}
 use Rattle.kinds.specs.Kind.{Kind, Lawful}
 use Rattle.kinds.specs.Groups.{group_length}
-use Rattle.locks.specs.Circuit.{Gate, ac, mc, ad, mu}
+use Rattle.faults.specs.declared.Reason.{Reason}
+use Rattle.locks.specs.Circuit.{Gate, ac, mc, ad, mu, Circuit}
 use Rattle.theory.specs.Runs.{View}
 use Rattle.theory.specs.Groups.{group}
+use Rattle.theory.specs.Messages.{shares_at, masks_at, products_at}
+use Rattle.theory.specs.Tests.{Verdict, both, lawful_at}
 use Rattle.branches.specs.Wires.{wires_in}
 use Rattle.branches.specs.declared.views.ViewParts.{ViewParts}
 
@@ -22,6 +25,12 @@ taken K (ac a c) p = K.zero
 taken K (mc a c) p = K.zero
 taken K (ad a b) p = K.zero
 taken K (mu a b) p = p
+
+-- the elements of a view that begins at an offset of a message, tested in their order
+abbrev pub lawful_view_at : Kind → Circuit (List ℕ) → Reason → (at : ℕ) → View (List ℕ) → Verdict
+lawful_view_at K l r at A =
+    both (lawful_at K r (at + shares_at K l) A.wires)
+    (both (lawful_at K r (at + masks_at K l) A.masks) (lawful_at K r (at + products_at K l) A.products))
 
 module _ (K : Kind) where
   -- with k inputs and m products

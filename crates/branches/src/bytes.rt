@@ -9,12 +9,7 @@ pub fn first_difference(left: &[u8], right: &[u8]) -> Option<usize>
     requires { length left.now ≡ length right.now }
     ensures { result ≡ differ left.now right.now }
 {
-    for i in 0..left.len() {
-        if left[i] != right[i] {
-            return Some(i);
-        }
-    }
-    None
+    left.iter().zip(right).position(|(a, b)| a != b)
 }
 
 pub fn same_bytes(left: &[u8], right: &[u8]) -> bool

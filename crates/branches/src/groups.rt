@@ -19,7 +19,7 @@ pub fn group_length<K: ElementKind>(n: usize) -> usize
     requires { group_length K.kind n < 2 ^ 64 }
     ensures { result ≡ group_length K.kind n }
 {
-    n * K::row_length()
+    n * K::WIDTH
 }
 
 // Where element i begins in its group.
@@ -27,7 +27,7 @@ pub fn element_at<K: ElementKind>(i: usize) -> usize
     requires { element_at K.kind i < 2 ^ 64 }
     ensures { result ≡ element_at K.kind i }
 {
-    i * K::row_length()
+    i * K::WIDTH
 }
 
 // Element i of the group of n at the front of the bytes.

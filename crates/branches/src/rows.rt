@@ -9,7 +9,7 @@ pub(crate) fn read_row<K: ElementKind>(bytes: &[u8], at: usize) -> Option<K>
     requires { at + K.kind.width ≤ length bytes.now }
     ensures { MatchOption result (K.kind.lawful (row_at K.kind.width at bytes.now) ≡ false) (λ x. K.ElementKind.row x ≡ row_at K.kind.width at bytes.now) }
 {
-    K::read(&bytes[at..at + K::row_length()])
+    K::read(&bytes[at..at + K::WIDTH])
 }
 
 // The element of a row that is known to be lawful.
@@ -28,12 +28,12 @@ pub(crate) fn row_of<K: ElementKind>(bytes: &[u8], at: usize) -> K
     requires lawful { Lawful K.kind (row_at K.kind.width at bytes.now) }
     ensures { K.ElementKind.row result ≡ row_at K.kind.width at bytes.now }
 {
-    lawful_row(&bytes[at..at + K::row_length()])
+    lawful_row(&bytes[at..at + K::WIDTH])
 }
 
 pub(crate) fn write_row<K: ElementKind>(bytes: &mut [u8], at: usize, x: K)
     requires { at + K.kind.width ≤ length bytes.old }
     ensures { bytes.new ≡ put_row K.kind.width at (K.ElementKind.row x) bytes.old }
 {
-    let _ = x.write(&mut bytes[at..at + K::row_length()]);
+    let _ = x.write(&mut bytes[at..at + K::WIDTH]);
 }

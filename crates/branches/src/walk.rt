@@ -50,6 +50,6 @@ pub fn outputs_reader<'a, K: ElementKind>(lock: Lock<'a>) -> Reader<'a>
     requires { lock.outputs * output_size K.kind ≤ length (record_bytes lock) }
     ensures { standing result ≡ outputs_place K.kind lock.entry }
 {
-    let size = lock.outputs as usize * (6 + K::row_length());
+    let size = lock.outputs as usize * (6 + K::WIDTH);
     Reader::over(&lock.records[lock.records.len() - size..])
 }

@@ -7,7 +7,7 @@ ghost use Rattle.theory.specs.Hiding.{Hiding};
 ghost use Rattle.theory.specs.Worked.{Worked, Witness};
 
 pub use extractor::extract::extract;
-pub use faults::{Fault, Reason};
+pub use faults::{Branch, Fault, Reason};
 pub use keeper::Keeper;
 pub use kinds::bit::Bit;
 pub use kinds::kind::ElementKind;
@@ -29,7 +29,7 @@ pub use verifier::verify::verify;
 
 // The promises, of the very definitions that the contracts of `promise`, `answer`, `drop_round`, `verify` and `extract` cite;
 // the worked example; and that the promises' premises can be met.
-pub fn promises_stand() -> u8
+pub fn promises_stand()
     ensures sound { Soundness }
     ensures complete { Completeness }
     ensures hides { Hiding }
@@ -38,5 +38,4 @@ pub fn promises_stand() -> u8
 {
     promises::promises_stand();
     promises::worked_stands();
-    0
 }

@@ -1,29 +1,21 @@
 -- A keeper's state between calls: what a call over it tells and leaves, and what the next call finds.
-use Rattle.std.proofs.Common.{◌≡◌, ℕ, ◌<◌, ◌≤◌, Bool, true, false, cond, leb, List, [], ◌∷◌, ◌++◌, map, length, take, drop, Some, None, Ok, Err, Option, Result, sym, refl, ap, ◌∙◌, subst, arith, length-take, take_all, le-leb, leb-true}
+use Rattle.std.proofs.Common.{◌≡◌, ℕ, ◌≤◌, Bool, true, false, cond, leb, List, [], ◌∷◌, map, length, take, drop, Some, None, Ok, Err, Option, Result, sym, refl, ap, ◌∙◌, subst, arith, length-take, take_all, le-leb, leb-true}
+use Rattle.std.proofs.lemmas.List.{length-map}
 use lib.Seq.{take-append_seam}
 use Rattle.faults.specs.declared.Fault.{Fault}
-use Rattle.faults.specs.Outcomes.{map_ok}
-use Rattle.faults.proofs.Passed.{err_ok}
 use Rattle.theory.specs.declared.RoundState.{RoundState}
+use Rattle.theory.specs.Records.{record_number}
 use Rattle.theory.specs.Store.{rounds_in}
 use Rattle.theory.specs.Tests.{left}
-use Rattle.theory.specs.declared.Branch.{Branch}
-use Rattle.theory.specs.Keeper.{Keeper, made_from, ended, answer_branch, answer_result, after_answer, drop_result, after_drop}
-use Rattle.keeper.specs.declared.Keeper.{Keeper as Code}
-use Rattle.keeper.specs.Model.{values_of, resumed_from}
+use Rattle.theory.specs.Keeper.{Keeper, made_from}
+use Rattle.keeper.specs.Model.{resumed_from}
 use Rattle.exports.specs.declared.told.KeeperState.{KeeperState}
 use Rattle.exports.specs.declared.told.Refusal.{Refusal}
-use Rattle.exports.specs.Numbered.{for_one}
+use Rattle.std.specs.Option.{option_map, option_map_or, option_and_then}
 use Rattle.exports.specs.Outcomes.{told_by}
-use Rattle.exports.specs.State.{state_numbered, number_of, states_in, numbers_over, table_in, keeper_in, state_told}
-use Rattle.exports.specs.Keeping.{Leaves, told_in, store_in, state_in, next_in, buffer_in}
-
--- the code's keeper after a call, and the state that was saved
-pub few_records : (q : Code) (k : Keeper) → values_of q ≡ k → length k.table ≤ k.capacity
-few_records q k e = subst (λ (v : Keeper). length v.table ≤ v.capacity) e (simp length-take (omega (arith, q.within)))
-
-pub saved : (s state : KeeperState) (t : List RoundState) (q : Code) (k : Keeper) → values_of q ≡ k → t ≡ take q.promised q.rounds.records → state ≡ state_told t s → state ≡ state_told k.table s
-saved s state t q k e d h = h ∙ ap (λ (l : List RoundState). state_told l s) (d ∙ ap (λ (v : Keeper). v.table) e)
+use Rattle.exports.specs.State.{state_numbered, states_in, numbers_over, table_in, keeper_of, keeper_in, state_told}
+use Rattle.exports.specs.Kept.{Keeps}
+use Rattle.exports.specs.Keeping.{Leaves, told_in, store_in, state_in, next_in}
 
 -- as many records as numbers
 long_as : (ns : List ℕ) (t : List RoundState) → Some t ≡ states_in ns → length t ≡ length ns
@@ -31,9 +23,9 @@ unfolding states_in
 long_as [] t e = let d : t ≡ [] = cc in ap length d
 long_as (n ∷ ns) t e = go (λ u. long_as ns u) (state_numbered n) (states_in ns) refl e
   where
-    go : ((u : List RoundState) → Some u ≡ states_in ns → length u ≡ length ns) → (x : Option RoundState) (y : Option (List RoundState)) → states_in ns ≡ y → Some t ≡ for_one x (λ s. for_one y (λ u. Some (s ∷ u)) None) None → length t ≡ length (n ∷ ns)
-    go more None y d f = let z : ◌≡◌ {A = ℕ} 0 1 = cc in absurd (omega arith)
-    go more (Some s) None d f = let z : ◌≡◌ {A = ℕ} 0 1 = cc in absurd (omega arith)
+    go : ((u : List RoundState) → Some u ≡ states_in ns → length u ≡ length ns) → (x : Option RoundState) (y : Option (List RoundState)) → states_in ns ≡ y → Some t ≡ option_and_then (λ s. option_map (λ u. s ∷ u) y) x → length t ≡ length (n ∷ ns)
+    go more None y d f = cc
+    go more (Some s) None d f = cc
     go more (Some s) (Some u) d f =
         let g : t ≡ s ∷ u = cc in
         let l = more u (sym d) in
@@ -45,7 +37,7 @@ unfolding table_in
 few_held s n t e = go (leb s.promised (rounds_in s.view_length n)) refl e
   where
     go : (b : Bool) → leb s.promised (rounds_in s.view_length n) ≡ b → Some t ≡ cond b (states_in (take s.promised s.records)) None → length t ≤ rounds_in s.view_length n
-    go false d f = let z : ◌≡◌ {A = ℕ} 0 1 = cc in absurd (omega arith)
+    go false d f = cc
     go true d f =
         let h : s.promised ≤ rounds_in s.view_length n = leb-true s.promised (rounds_in s.view_length n) d in
         let l : length t ≡ length (take s.promised s.records) = long_as (take s.promised s.records) t f in
@@ -54,34 +46,28 @@ few_held s n t e = go (leb s.promised (rounds_in s.view_length n)) refl e
 pub opened : (s : KeeperState) (store : List ℕ) (t : List RoundState) → Some t ≡ table_in s (length store) → keeper_in s store ≡ Some (resumed_from s.view_length t store)
 unfolding keeper_in
 opened s store t e =
-    let L = s.view_length in
     let f : take (rounds_in s.view_length (length store)) t ≡ t = take_all (rounds_in s.view_length (length store)) t (few_held s (length store) t e) in
-    ap (λ (o : Option (List RoundState)). for_one o (λ t. Some (record { view_size = s.view_length; capacity = rounds_in s.view_length (length store); store = store; table = t })) None) (sym e)
-    ∙ ap (λ (l : List RoundState). Some (record { view_size = s.view_length; capacity = rounds_in s.view_length (length store); store = store; table = l })) (sym f)
+    ap (option_map (keeper_of s store)) (sym e)
+    ∙ ap (λ (l : List RoundState). Some (keeper_of s store l)) (sym f)
 
 pub unopened : (s : KeeperState) (store : List ℕ) → None ≡ table_in s (length store) → keeper_in s store ≡ None
 unfolding keeper_in
-unopened s store e =
-    ap (λ (o : Option (List RoundState)). for_one o (λ t. Some (record { view_size = s.view_length; capacity = rounds_in s.view_length (length store); store = store; table = t })) None) (sym e)
+unopened s store e = ap (option_map (keeper_of s store)) (sym e)
 
 -- numbers tell their records
-told_back : (t : List RoundState) → states_in (map number_of t) ≡ Some t
+told_back : (t : List RoundState) → states_in (map record_number t) ≡ Some t
 unfolding states_in
 told_back [] = refl
-told_back (s ∷ t) = ap (λ (o : Option RoundState). for_one o (λ s. for_one (states_in (map number_of t)) (λ u. Some (s ∷ u)) None) None) (back s) ∙ ap (λ (o : Option (List RoundState)). for_one o (λ u. Some (s ∷ u)) None) (told_back t)
+told_back (s ∷ t) = ap (option_and_then (λ s. option_map (λ u. s ∷ u) (states_in (map record_number t)))) (back s) ∙ ap (option_map (λ u. s ∷ u)) (told_back t)
   where
-    back : (s : RoundState) → state_numbered (number_of s) ≡ Some s
+    back : (s : RoundState) → state_numbered (record_number s) ≡ Some s
     back RoundState.Promised = refl
     back RoundState.Answered = refl
     back RoundState.Dropped = refl
 
-length_numbers : (t : List RoundState) → length (map number_of t) ≡ length t
-length_numbers [] = refl
-length_numbers (s ∷ t) = let l = length_numbers t in omega arith
-
 -- the records of a state that was saved
-front_told : (t : List RoundState) (ns : List ℕ) → take (length t) (numbers_over t ns) ≡ map number_of t
-front_told t ns = ap (λ (n : ℕ). take n (numbers_over t ns)) (sym (length_numbers t)) ∙ take-append_seam (map number_of t) (drop (length t) ns)
+front_told : (t : List RoundState) (ns : List ℕ) → take (length t) (numbers_over t ns) ≡ map record_number t
+front_told t ns = ap (λ (n : ℕ). take n (numbers_over t ns)) (sym (length-map t record_number)) ∙ take-append_seam (map record_number t) (drop (length t) ns)
 
 table_told : (s : KeeperState) (t : List RoundState) (n : ℕ) → length t ≤ rounds_in s.view_length n → table_in (state_told t s) n ≡ Some t
 unfolding table_in
@@ -96,7 +82,7 @@ unfolding keeper_in
 next_is s store store' k view room few same long =
     let cap-is : rounds_in s.view_length (length store') ≡ k.capacity = ap (rounds_in s.view_length) long ∙ sym room in
     let h : length k.table ≤ rounds_in s.view_length (length store') = omega arith in
-    ap (λ (o : Option (List RoundState)). for_one o (λ t. Some (record { view_size = s.view_length; capacity = rounds_in s.view_length (length store'); store = store'; table = t })) None) (table_told s k.table (length store') h)
+    ap (option_map (keeper_of s store')) (table_told s k.table (length store') h)
     ∙ (λ i. Some (record { view_size = sym view i; capacity = cap-is i; store = same i; table = k.table }))
 
 -- its store is the one beside the state
@@ -104,15 +90,9 @@ store_of : (s : KeeperState) (store : List ℕ) (k : Keeper) → keeper_in s sto
 unfolding keeper_in
 store_of s store k e = go (table_in s (length store)) e
   where
-    go : (o : Option (List RoundState)) → for_one o (λ t. Some (record { view_size = s.view_length; capacity = rounds_in s.view_length (length store); store = store; table = t })) None ≡ Some k → k.store ≡ store
-    go None d = let z : ◌≡◌ {A = ℕ} 0 1 = cc in absurd (omega arith)
-    go (Some t) d = let f : ◌≡◌ {A = Keeper} (record { view_size = s.view_length; capacity = rounds_in s.view_length (length store); store = store; table = t }) k = cc in sym (ap (λ (x : Keeper). x.store) f)
-
--- what every call of a keeper keeps
-pub record Keeps {A : Type 0} (k : Keeper) (outcome : Result A Fault) (after : Keeper) : Type 0 where
-  pub view : after.view_size ≡ k.view_size
-  pub room : after.capacity ≡ k.capacity
-  pub refused : (f : Fault) → outcome ≡ Err f → after ≡ k
+    go : (o : Option (List RoundState)) → option_map (keeper_of s store) o ≡ Some k → k.store ≡ store
+    go None d = cc
+    go (Some t) d = let f : keeper_of s store t ≡ k = cc in sym (ap (λ (x : Keeper). x.store) f)
 
 -- what a call over a state tells and leaves
 pub record Carried {A : Type 0} (s : KeeperState) (store : List ℕ) (result : Keeper → Result A Fault) (after : Keeper → Keeper) (told : Result A Refusal) (s' : KeeperState) (store' : List ℕ) : Type 0 where
@@ -126,10 +106,10 @@ module _ {A : Type 0} (s : KeeperState) (store : List ℕ) (result : Keeper → 
   pub none_carried : keeper_in s store ≡ None → Carried s store result after (Err Refusal.BadKeeper) s store
   unfolding told_in store_in state_in next_in
   none_carried e = record {
-    outcome = sym (ap (λ (o : Option Keeper). for_one o (λ k. told_by (result k)) (Err Refusal.BadKeeper)) e);
-    store_is = sym (ap (λ (o : Option Keeper). for_one o (λ k. (after k).store) store) e);
-    state_is = sym (ap (λ (o : Option Keeper). for_one o (λ k. left (result k) (λ _. state_told (after k).table s) s) s) e);
-    next = e ∙ sym (ap (λ (o : Option Keeper). for_one o (λ k. Some (after k)) None) e);
+    outcome = sym (ap (λ (o : Option Keeper). option_map_or (λ k. told_by (result k)) o (Err Refusal.BadKeeper)) e);
+    store_is = sym (ap (λ (o : Option Keeper). option_map_or (λ k. (after k).store) o store) e);
+    state_is = sym (ap (λ (o : Option Keeper). option_map_or (λ k. left (result k) (λ _. state_told (after k).table s) s) o s) e);
+    next = e ∙ sym (ap (option_map after) e);
   }
 
   module _ (k : Keeper) (e : keeper_in s store ≡ Some k) (view : k.view_size ≡ s.view_length) (room : k.capacity ≡ rounds_in s.view_length (length store)) where
@@ -147,39 +127,16 @@ module _ {A : Type 0} (s : KeeperState) (store : List ℕ) (result : Keeper → 
     pub carried : (r : Result A Fault) (s' : KeeperState) (store' : List ℕ) → r ≡ result k → Keeps k (result k) (after k) → Leaves s r (after k) s' store' → length store' ≡ length store → Carried s store result after (told_by r) s' store'
     unfolding told_in store_in state_in next_in
     carried r s' store' d keeps leaves long = record {
-      outcome = ap told_by d ∙ sym (ap (λ (o : Option Keeper). for_one o (λ k. told_by (result k)) (Err Refusal.BadKeeper)) e);
-      store_is = leaves.store_is ∙ sym (ap (λ (o : Option Keeper). for_one o (λ k. (after k).store) store) e);
+      outcome = ap told_by d ∙ sym (ap (λ (o : Option Keeper). option_map_or (λ k. told_by (result k)) o (Err Refusal.BadKeeper)) e);
+      store_is = leaves.store_is ∙ sym (ap (λ (o : Option Keeper). option_map_or (λ k. (after k).store) o store) e);
       state_is =
           leaves.state_is ∙ ap (λ (x : Result A Fault). left x (λ _. state_told (after k).table s) s) d
-          ∙ sym (ap (λ (o : Option Keeper). for_one o (λ k. left (result k) (λ _. state_told (after k).table s) s) s) e);
-      next = next_found r s' store' (subst (λ (x : Result A Fault). Keeps k x (after k)) (sym d) keeps) leaves long ∙ sym (ap (λ (o : Option Keeper). for_one o (λ k. Some (after k)) None) e);
+          ∙ sym (ap (λ (o : Option Keeper). option_map_or (λ k. left (result k) (λ _. state_told (after k).table s) s) o s) e);
+      next = next_found r s' store' (subst (λ (x : Result A Fault). Keeps k x (after k)) (sym d) keeps) leaves long ∙ sym (ap (option_map after) e);
     }
-
--- a buffer that the call wrote, and one that it left
-pub buffer_is : (s : KeeperState) (store : List ℕ) (k : Keeper) → keeper_in s store ≡ Some k → (new : Keeper → List ℕ) (old out : List ℕ) → out ≡ new k → out ≡ buffer_in s store new old
-unfolding buffer_in
-buffer_is s store k e new old out d = d ∙ sym (ap (λ (o : Option Keeper). for_one o new old) e)
-
-pub buffer_stays : (s : KeeperState) (store : List ℕ) (new : Keeper → List ℕ) (old : List ℕ) → keeper_in s store ≡ None → old ≡ buffer_in s store new old
-unfolding buffer_in
-buffer_stays s store new old e = sym (ap (λ (o : Option Keeper). for_one o new old) e)
-
-pub drop_keeps : (k : Keeper) (r : ℕ) → Keeps k (drop_result k r) (after_drop k r)
-drop_keeps k r = go (drop_result k r)
-  where
-    go : (o : Result (Unit {0}) Fault) → Keeps k o (left o (λ _. ended k r RoundState.Dropped) k)
-    go (Ok a) = record { view = refl; room = refl; refused = λ f e. err_ok (sym e) }
-    go (Err f) = record { view = refl; room = refl; refused = λ g e. refl }
-
-pub answer_keeps : (k : Keeper) (r pick size : ℕ) → Keeps k (answer_result k r pick size) (after_answer k r pick size)
-answer_keeps k r pick size = go (answer_branch k r pick size)
-  where
-    go : (o : Result Branch Fault) → Keeps k (map_ok {B = Unit {0}} (λ _. tt) o) (left o (λ _. ended k r RoundState.Answered) k)
-    go (Ok b) = record { view = refl; room = refl; refused = λ f e. err_ok (sym e) }
-    go (Err f) = record { view = refl; room = refl; refused = λ g e. refl }
 
 -- no round promised yet
 pub made_is : (L : ℕ) (ns store : List ℕ) → keeper_in (record { view_length = L; promised = 0; records = ns }) store ≡ Some (made_from L store)
 unfolding keeper_in table_in states_in
 made_is L ns store =
-    ap (λ (b : Bool). for_one (cond b (Some []) None) (λ t. Some (record { view_size = L; capacity = rounds_in L (length store); store = store; table = t })) None) (le-leb 0 (rounds_in L (length store)) (omega arith))
+    ap (λ (b : Bool). option_map (keeper_of (record { view_length = L; promised = 0; records = ns }) store) (cond b (Some []) None)) (le-leb 0 (rounds_in L (length store)) (omega arith))

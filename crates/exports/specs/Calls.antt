@@ -1,5 +1,7 @@
 -- What the exported calls answer and leave: the engine's definitions, at the kind and the sealer of these numbers.
-use Rattle.std.specs.Prelude.{ℕ, List, length, Ok, Err, Result}
+use Rattle.std.specs.Prelude.{ℕ, List, length, Result}
+use Rattle.std.specs.Option.{option_map_or}
+use Rattle.faults.specs.Branches.{pick_byte}
 use Rattle.faults.specs.Outcomes.{map_ok}
 use Rattle.kinds.specs.Kind.{Kind}
 use Rattle.locks.specs.Circuit.{Circuit}
@@ -14,7 +16,7 @@ use Rattle.exports.specs.declared.told.Refusal.{Refusal}
 use Rattle.exports.specs.declared.told.ToldLengths.{ToldLengths}
 use Rattle.exports.specs.declared.told.ToldExtracted.{ToldExtracted}
 use Rattle.exports.specs.Outcomes.{told_by, told_beside}
-use Rattle.exports.specs.Numbered.{kind_numbered, sealing_numbered, for_one}
+use Rattle.exports.specs.Numbered.{by_number, chosen}
 
 -- a lock's counts, and the lengths of what belongs to it
 abbrev pub lengths_by : Kind → Sealing → Summary → ToldLengths
@@ -34,38 +36,21 @@ lengths_by K S n = record {
 abbrev pub lengths_of : Kind → Sealing → Circuit (List ℕ) → ToldLengths
 lengths_of K S l = lengths_by K S (summary l)
 
-abbrev pub read_as : (sealer : ℕ) (lock : List ℕ) → Kind → Result ToldLengths Refusal
-read_as sealer lock K = for_one (sealing_numbered sealer) (λ S. told_by (map_ok (lengths_of K S) (lock_of K lock))) (Err Refusal.NoSealer)
-
 abbrev pub read_call : (kind sealer : ℕ) (lock : List ℕ) → Result ToldLengths Refusal
-read_call kind sealer lock = for_one (kind_numbered kind) (read_as sealer lock) (Err Refusal.NoKind)
-
-abbrev pub verify_as : (sealer : ℕ) (lock first : List ℕ) (pick : ℕ) (answer : List ℕ) (work1 work2 : ℕ) → Kind → Result (Unit {0}) Refusal
-verify_as sealer lock first pick answer work1 work2 K =
-    for_one (sealing_numbered sealer) (λ S. told_by (verified K S lock first pick answer work1 work2)) (Err Refusal.NoSealer)
+read_call kind sealer lock = by_number kind sealer (λ K S. told_by (map_ok (lengths_of K S) (lock_of K lock)))
 
 abbrev pub verify_call : (kind sealer : ℕ) (lock first : List ℕ) (pick : ℕ) (answer : List ℕ) (work1 work2 : ℕ) → Result (Unit {0}) Refusal
-verify_call kind sealer lock first pick answer work1 work2 =
-    for_one (kind_numbered kind) (verify_as sealer lock first pick answer work1 work2) (Err Refusal.NoKind)
+verify_call kind sealer lock first pick answer work1 work2 = by_number kind sealer (λ K S. told_by (verified K S lock first pick answer work1 work2))
 
-module _ (sealer : ℕ) (lock first answer1 answer2 answer3 : List ℕ) (work1 work2 : ℕ) (key : List ℕ) where
-  abbrev pub extract_as : Kind → Result Extracted Refusal
-  extract_as K =
-      for_one (sealing_numbered sealer) (λ S. told_beside (extracted K S lock first (by_branch answer1 answer2 answer3) work1 work2 (length key))) (Err Refusal.NoSealer)
+module _ (kind sealer : ℕ) (lock first answer1 answer2 answer3 : List ℕ) (work1 work2 : ℕ) (key : List ℕ) where
+  abbrev pub extract_call : Result Extracted Refusal
+  extract_call = by_number kind sealer (λ K S. told_beside (extracted K S lock first (by_branch answer1 answer2 answer3) work1 work2 (length key)))
 
   -- the key buffer afterwards
-  abbrev pub key_as : Kind → List ℕ
-  key_as K = for_one (sealing_numbered sealer) (λ S. key_after K S lock first (by_branch answer1 answer2 answer3) work1 work2 key) key
-
-abbrev pub extract_call : (kind sealer : ℕ) (lock first answer1 answer2 answer3 : List ℕ) (work1 work2 : ℕ) (key : List ℕ) → Result Extracted Refusal
-extract_call kind sealer lock first answer1 answer2 answer3 work1 work2 key =
-    for_one (kind_numbered kind) (extract_as sealer lock first answer1 answer2 answer3 work1 work2 key) (Err Refusal.NoKind)
-
-abbrev pub key_left : (kind sealer : ℕ) (lock first answer1 answer2 answer3 : List ℕ) (work1 work2 : ℕ) (key : List ℕ) → List ℕ
-key_left kind sealer lock first answer1 answer2 answer3 work1 work2 key =
-    for_one (kind_numbered kind) (key_as sealer lock first answer1 answer2 answer3 work1 work2 key) key
+  abbrev pub key_left : List ℕ
+  key_left = option_map_or (λ n. key_after n.0 n.1 lock first (by_branch answer1 answer2 answer3) work1 work2 key) (chosen kind sealer) key
 
 -- branch 0 for a key
 abbrev pub extracted_told : Extracted → ToldExtracted
 extracted_told Extracted.Key = record { offset = 0; branch = 0 }
-extracted_told (Extracted.Collision b o) = record { offset = o; branch = b }
+extracted_told (Extracted.Collision b o) = record { offset = o; branch = pick_byte b }

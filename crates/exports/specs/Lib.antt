@@ -3,3 +3,4 @@ pub mod Numbered
 pub mod Calls
 pub mod State
 pub mod Keeping
+pub mod Kept

@@ -1,51 +1,41 @@
 -- A keeper's state as C holds it, and the keeper that it stands for.
-use Rattle.std.specs.Prelude.{ℕ, cond, List, [], ◌∷◌, ◌++◌, map, length, take, drop, replicate, Some, None, Option, ◌==◌, nat_le}
+use Rattle.std.specs.Prelude.{ℕ, cond, List, [], ◌∷◌, ◌++◌, map, length, take, drop, replicate, Some, None, Option, nat_le}
+use Rattle.std.specs.Option.{option_map, option_and_then}
+use Rattle.std.specs.Result.{result_ok}
+use Rattle.arrayvec.specs.ArrayVec.{ArrayVec}
 use Rattle.theory.specs.declared.RoundState.{RoundState}
 use Rattle.theory.specs.Keeper.{Keeper}
+use Rattle.theory.specs.Records.{record_numbered, record_number}
 use Rattle.theory.specs.Store.{rounds_in}
-use Rattle.exports.specs.declared.table.Table.{Table}
 use Rattle.exports.specs.declared.told.KeeperState.{KeeperState}
-use Rattle.exports.specs.Numbered.{for_one}
 
 -- a record by its number
 abbrev pub state_numbered : ℕ → Option RoundState
-state_numbered n =
-    cond (n == 0) (Some RoundState.Promised) (cond (n == 1) (Some RoundState.Answered) (cond (n == 2) (Some RoundState.Dropped) None))
-
-abbrev pub number_of : RoundState → ℕ
-number_of RoundState.Promised = 0
-number_of RoundState.Answered = 1
-number_of RoundState.Dropped = 2
+state_numbered n = result_ok (record_numbered n)
 
 -- records by their numbers, if each is one
 unfoldable pub states_in : List ℕ → Option (List RoundState)
 states_in [] = Some []
-states_in (n ∷ ns) = for_one (state_numbered n) (λ s. for_one (states_in ns) (λ t. Some (s ∷ t)) None) None
+states_in (n ∷ ns) = option_and_then (λ s. option_map (λ t. s ∷ t) (states_in ns)) (state_numbered n)
 
 -- the numbers of these records, and behind them what stood there
 abbrev pub numbers_over : List RoundState → List ℕ → List ℕ
-numbers_over t ns = map number_of t ++ drop (length t) ns
+numbers_over t ns = map record_number t ++ drop (length t) ns
 
--- the first n records of an array
-abbrev pub front_of : ℕ → Option (List RoundState) → Option (List RoundState)
-front_of n (Some t) = Some (take n t)
-front_of n None = None
-
-abbrev pub table_of : Table → List RoundState
-table_of t = take t.promised t.records
-
-abbrev pub tables_of : Option Table → Option (List RoundState)
-tables_of (Some t) = Some (table_of t)
-tables_of None = None
+abbrev pub records_of : Option (ArrayVec RoundState) → Option (List RoundState)
+records_of r = option_map (λ v. v.items) r
 
 -- the records of a state over a store of so many bytes: no more are promised than it holds, and each has a record's number
 unfoldable pub table_in : KeeperState → (bytes-had : ℕ) → Option (List RoundState)
 table_in s bytes-had = cond (nat_le s.promised (rounds_in s.view_length bytes-had)) (states_in (take s.promised s.records)) None
 
+-- the keeper of a state with these records, and of its store
+abbrev pub keeper_of : KeeperState → (store : List ℕ) → List RoundState → Keeper
+keeper_of s store t = record { view_size = s.view_length; capacity = rounds_in s.view_length (length store); store = store; table = t }
+
 -- the keeper that a state stands for, with its store
 unfoldable pub keeper_in : KeeperState → (store : List ℕ) → Option Keeper
-keeper_in s store =
-    for_one (table_in s (length store)) (λ t. Some (record { view_size = s.view_length; capacity = rounds_in s.view_length (length store); store = store; table = t })) None
+keeper_in s store = option_map (keeper_of s store) (table_in s (length store))
 
 -- the state with these records; the view length stays, and so does what lies behind the records
 abbrev pub state_told : List RoundState → KeeperState → KeeperState

@@ -1,99 +1,76 @@
 // The key from three accepted answers.
 ghost use Rattle.std.specs.Prelude.{◌≡◌, length};
 ghost use Rattle.theory.specs.Keeper.{work_after};
-ghost use Rattle.exports.specs.Outcomes.{status_of, fault_of, left_by};
-ghost use Rattle.exports.specs.Calls.{extract_as, key_as, extract_call, key_left, extracted_told};
+ghost use Rattle.theory.specs.Extraction.{by_branch, extracted, key_after};
+ghost use Rattle.std.specs.Option.{option_map_or};
+ghost use Rattle.exports.specs.Outcomes.{told_beside, status_of, fault_of, left_by};
+ghost use Rattle.exports.specs.Calls.{extract_call, key_left, extracted_told};
 
-use crate::tell::{tell, told_beside};
+use crate::call::{Call, by_number};
+use crate::tell::tell;
 use crate::told::{Refusal, ToldExtracted, ToldFault};
 use branches::bytes::clear;
 use extractor::extract::extract;
-use kinds::bit::Bit;
 use kinds::kind::ElementKind;
-use kinds::residue::Residue;
-use kinds::word::Word;
-use sha2_256::Sha256;
-use sha3::Sha3_256;
+use seals::Sealer;
 use theory::Extracted;
 
-fn extract_as<'a, K: ElementKind>(
-    sealer: u8,
-    lock: &[u8],
-    first: &[u8],
+#[derive(Drop)]
+struct Extracting<'a> {
+    lock: &'a [u8],
+    first: &'a [u8],
     answer1: &'a [u8],
     answer2: &'a [u8],
     answer3: &'a [u8],
-    work1: &mut [u8],
-    work2: &mut [u8],
-    key: &mut [u8],
-) -> Result<Extracted, Refusal>
-    ensures outcome { result ≡ extract_as sealer lock.now first.now answer1.now answer2.now answer3.now (length work1.old) (length work2.old) key.old K.kind }
-    ensures key { key.new ≡ key_as sealer lock.now first.now answer1.now answer2.now answer3.now (length work1.old) (length work2.old) key.old K.kind }
-    ensures cleared { work1.new ≡ work_after work1.old }
-    ensures nextcleared { work2.new ≡ work_after work2.old }
-{
-    match sealer {
-        1 => told_beside(extract::<K, Sha256>(
-            &Sha256, lock, first, answer1, answer2, answer3, work1, work2, key,
-        )),
-        2 => told_beside(extract::<K, Sha3_256>(
-            &Sha3_256, lock, first, answer1, answer2, answer3, work1, work2, key,
-        )),
-        _ => {
-            clear(work1);
-            clear(work2);
-            Err(Refusal::NoSealer)
-        }
+    work1: &'a mut [u8],
+    work2: &'a mut [u8],
+    key: &'a mut [u8],
+}
+
+impl Call for Extracting<'_> {
+    type Out = Extracted;
+
+    ghost outcome = { λ K S call. told_beside (extracted K S call.lock.now call.first.now (by_branch call.answer1.now call.answer2.now call.answer3.now) (length call.work1.now) (length call.work2.now) (length call.key.now)) };
+
+    ghost Leaves = { λ chosen old new. (new.work1.now ≡ work_after old.work1.now) × (new.work2.now ≡ work_after old.work2.now)
+        × (new.key.now ≡ option_map_or (λ n. key_after n.0 n.1 old.lock.now old.first.now (by_branch old.answer1.now old.answer2.now old.answer3.now) (length old.work1.now) (length old.work2.now) old.key.now) chosen old.key.now)
+        × (new.work1.ghost_name ≡ old.work1.ghost_name) × (new.work2.ghost_name ≡ old.work2.ghost_name) × (new.key.ghost_name ≡ old.key.ghost_name) };
+
+    fn run<K: ElementKind, S: Sealer>(&mut self, sealer: &S) -> Result<Extracted, Refusal> {
+        extract::<K, S>(
+            sealer,
+            self.lock,
+            self.first,
+            self.answer1,
+            self.answer2,
+            self.answer3,
+            self.work1,
+            self.work2,
+            self.key,
+        )
+        .map_err(Refusal::from)
+    }
+
+    fn refuse(&mut self) {
+        clear(self.work1);
+        clear(self.work2);
     }
 }
 
-fn extract_by<'a>(
-    kind: u8,
-    sealer: u8,
-    lock: &[u8],
-    first: &[u8],
-    answer1: &'a [u8],
-    answer2: &'a [u8],
-    answer3: &'a [u8],
-    work1: &mut [u8],
-    work2: &mut [u8],
-    key: &mut [u8],
-) -> Result<Extracted, Refusal>
-    ensures outcome { result ≡ extract_call kind sealer lock.now first.now answer1.now answer2.now answer3.now (length work1.old) (length work2.old) key.old }
-    ensures key { key.new ≡ key_left kind sealer lock.now first.now answer1.now answer2.now answer3.now (length work1.old) (length work2.old) key.old }
-    ensures cleared { work1.new ≡ work_after work1.old }
-    ensures nextcleared { work2.new ≡ work_after work2.old }
-{
-    match kind {
-        1 => extract_as::<Bit>(
-            sealer, lock, first, answer1, answer2, answer3, work1, work2, key,
-        ),
-        2 => extract_as::<Word>(
-            sealer, lock, first, answer1, answer2, answer3, work1, work2, key,
-        ),
-        3 => extract_as::<Residue>(
-            sealer, lock, first, answer1, answer2, answer3, work1, work2, key,
-        ),
-        _ => {
-            clear(work1);
-            clear(work2);
-            Err(Refusal::NoKind)
-        }
-    }
-}
+impl From<Extracted> for ToldExtracted {
+    ghost from_gives = { λ found told. told ≡ extracted_told found };
 
-fn extracted_told(found: Extracted) -> ToldExtracted
-    ensures { result ≡ extracted_told found }
-{
-    match found {
-        Extracted::Key => ToldExtracted {
-            offset: 0,
-            branch: 0,
-        },
-        Extracted::Collision { branch, offset } => ToldExtracted {
-            offset: offset as u64,
-            branch,
-        },
+    fn from(found: Extracted) -> ToldExtracted {
+        match found {
+            Extracted::Key => ToldExtracted {
+                offset: 0,
+                branch: 0,
+            },
+            Extracted::Collision { branch, offset } => ToldExtracted {
+                offset: offset as u64,
+                branch: branch.number(),
+            },
+        }
     }
 }
 
@@ -120,11 +97,19 @@ pub extern "C" fn pz_extract(
     ensures cleared { work1.new ≡ work_after work1.old }
     ensures nextcleared { work2.new ≡ work_after work2.old }
 {
-    let outcome = extract_by(
-        kind, sealer, lock, first, answer1, answer2, answer3, work1, work2, key,
-    );
+    let mut call = Extracting {
+        lock,
+        first,
+        answer1,
+        answer2,
+        answer3,
+        work1,
+        work2,
+        key,
+    };
+    let outcome = by_number(kind, sealer, &mut call);
     if let Ok(found) = outcome {
-        *out = extracted_told(found);
+        *out = found.into();
     }
     tell(outcome, fault)
 }

@@ -1,67 +1,52 @@
 // A verdict.
 ghost use Rattle.std.specs.Prelude.{◌≡◌, length};
 ghost use Rattle.theory.specs.Keeper.{work_after};
-ghost use Rattle.exports.specs.Outcomes.{status_of, fault_of};
-ghost use Rattle.exports.specs.Calls.{verify_as, verify_call};
+ghost use Rattle.theory.specs.Verdict.{verified};
+ghost use Rattle.exports.specs.Outcomes.{told_by, status_of, fault_of};
+ghost use Rattle.exports.specs.Calls.{verify_call};
 
-use crate::tell::{tell, told_by};
+use crate::call::{Call, by_number};
+use crate::tell::tell;
 use crate::told::{Refusal, ToldFault};
 use branches::bytes::clear;
-use kinds::bit::Bit;
 use kinds::kind::ElementKind;
-use kinds::residue::Residue;
-use kinds::word::Word;
-use sha2_256::Sha256;
-use sha3::Sha3_256;
+use seals::Sealer;
 use verifier::verify::verify;
 
-fn verify_as<K: ElementKind>(
-    sealer: u8,
-    lock: &[u8],
-    first: &[u8],
+#[derive(Drop)]
+struct Verifying<'a> {
+    lock: &'a [u8],
+    first: &'a [u8],
     pick: u8,
-    answer: &[u8],
-    work1: &mut [u8],
-    work2: &mut [u8],
-) -> Result<(), Refusal>
-    ensures outcome { result ≡ verify_as sealer lock.now first.now pick answer.now (length work1.old) (length work2.old) K.kind }
-    ensures cleared { work1.new ≡ work_after work1.old }
-    ensures nextcleared { work2.new ≡ work_after work2.old }
-{
-    match sealer {
-        1 => told_by(verify::<K, Sha256>(&Sha256, lock, first, pick, answer, work1, work2)),
-        2 => told_by(verify::<K, Sha3_256>(&Sha3_256, lock, first, pick, answer, work1, work2)),
-        _ => {
-            clear(work1);
-            clear(work2);
-            Err(Refusal::NoSealer)
-        }
-    }
+    answer: &'a [u8],
+    work1: &'a mut [u8],
+    work2: &'a mut [u8],
 }
 
-fn verify_by(
-    kind: u8,
-    sealer: u8,
-    lock: &[u8],
-    first: &[u8],
-    pick: u8,
-    answer: &[u8],
-    work1: &mut [u8],
-    work2: &mut [u8],
-) -> Result<(), Refusal>
-    ensures outcome { result ≡ verify_call kind sealer lock.now first.now pick answer.now (length work1.old) (length work2.old) }
-    ensures cleared { work1.new ≡ work_after work1.old }
-    ensures nextcleared { work2.new ≡ work_after work2.old }
-{
-    match kind {
-        1 => verify_as::<Bit>(sealer, lock, first, pick, answer, work1, work2),
-        2 => verify_as::<Word>(sealer, lock, first, pick, answer, work1, work2),
-        3 => verify_as::<Residue>(sealer, lock, first, pick, answer, work1, work2),
-        _ => {
-            clear(work1);
-            clear(work2);
-            Err(Refusal::NoKind)
-        }
+impl Call for Verifying<'_> {
+    type Out = ();
+
+    ghost outcome = { λ K S call. told_by (verified K S call.lock.now call.first.now call.pick call.answer.now (length call.work1.now) (length call.work2.now)) };
+
+    ghost Leaves = { λ _ old new. (new.work1.now ≡ work_after old.work1.now) × (new.work2.now ≡ work_after old.work2.now)
+        × (new.work1.ghost_name ≡ old.work1.ghost_name) × (new.work2.ghost_name ≡ old.work2.ghost_name) };
+
+    fn run<K: ElementKind, S: Sealer>(&mut self, sealer: &S) -> Result<(), Refusal> {
+        verify::<K, S>(
+            sealer,
+            self.lock,
+            self.first,
+            self.pick,
+            self.answer,
+            self.work1,
+            self.work2,
+        )
+        .map_err(Refusal::from)
+    }
+
+    fn refuse(&mut self) {
+        clear(self.work1);
+        clear(self.work2);
     }
 }
 
@@ -83,6 +68,13 @@ pub extern "C" fn pz_verify(
     ensures cleared { work1.new ≡ work_after work1.old }
     ensures nextcleared { work2.new ≡ work_after work2.old }
 {
-    let outcome = verify_by(kind, sealer, lock, first, pick, answer, work1, work2);
-    tell(outcome, fault)
+    let mut call = Verifying {
+        lock,
+        first,
+        pick,
+        answer,
+        work1,
+        work2,
+    };
+    tell(by_number(kind, sealer, &mut call), fault)
 }

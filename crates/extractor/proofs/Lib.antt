@@ -1,2 +1,2 @@
-pub mod KeySums
+pub mod KeyLemmas
 pub mod Ends

@@ -1,4 +1,2 @@
-pub mod Sums
-pub mod Answers
+pub mod Accepted
 pub mod Picks
-pub mod Sizes

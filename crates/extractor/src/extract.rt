@@ -1,91 +1,73 @@
 // The extractor: a key, or two views with one seal, from three accepted answers.
-ghost use Rattle.std.specs.Prelude.{◌≡◌, ◌≤◌, length};
-ghost use Rattle.locks.specs.Lengths.{key_length, view_length, first_length, answer_length, work_length};
+ghost use Rattle.std.specs.Prelude.{◌≡◌, length};
 ghost use Rattle.theory.specs.Keeper.{work_after};
 ghost use Rattle.theory.specs.Extraction.{by_branch, extracted, key_after};
-ghost use Rattle.branches.specs.Walks.{circuit_of, Stands};
-ghost use Rattle.extractor.specs.Answers.{answers_of, Sized};
-ghost use Rattle.extractor.specs.Picks.{all_right};
+ghost use Rattle.extractor.specs.Picks.{accepted_at, Ready};
 
-use crate::answers::Answers;
-use crate::outcome::give;
+use crate::accepted::Accepted;
 use crate::picks::at_pick;
 use crate::sizes::sizes_right;
-use branches::branch::Branch;
 use branches::bytes::clear;
-use branches::walk::open_lock;
+use branches::lock::OpenLock;
+use faults::Branch;
 use kinds::kind::ElementKind;
-use locks::lock::Lock;
 use seals::Sealer;
 use theory::{Extracted, PickFault};
+use verifier::answer::Answer;
 use verifier::messages::messages_right;
 
-// The verifier's word on each answer, in turn.
-fn accepted<K: ElementKind, S: Sealer>(
+// The answer to a pick, where the verifier accepts it.
+fn accepted<'a, K: ElementKind, S: Sealer>(
     sealer: &S,
-    lock: Lock<'_>,
-    first: &[u8],
-    answers: Answers<'_>,
+    lock: &OpenLock<'a, K>,
+    first: &'a [u8],
+    branch: Branch,
+    answer: &'a [u8],
     work1: &mut [u8],
     work2: &mut [u8],
-) -> Result<(), PickFault>
-    requires stands { Stands K.kind lock }
-    requires sealable { view_length K.kind lock.inputs lock.products ≤ S.sealing.longest }
-    requires firstsized { length first.now ≡ first_length K.kind lock.outputs S.sealing.size }
-    requires sized { Sized K.kind lock answers }
-    requires room { work_length K.kind lock.inputs lock.gates ≤ length work1.old }
-    requires nextroom { work_length K.kind lock.inputs lock.gates ≤ length work2.old }
-    ensures { result ≡ all_right K.kind S.sealing (circuit_of K.kind lock.entry) first.now (answers_of answers.entry) }
+) -> Result<Answer<'a, K>, PickFault>
+    requires { Ready K.kind S.sealing lock.now first.now answer.now (length work1.old) (length work2.old) }
+    ensures { result ≡ accepted_at K.kind S.sealing lock.entry.now first.entry.now branch answer.entry.now }
 {
     at_pick(
-        messages_right::<K, S>(sealer, lock, first, Branch::One, answers.one, work1, work2),
-        1,
-    )?;
-    at_pick(
-        messages_right::<K, S>(sealer, lock, first, Branch::Two, answers.two, work1, work2),
-        2,
-    )?;
-    at_pick(
-        messages_right::<K, S>(
-            sealer,
-            lock,
-            first,
-            Branch::Three,
-            answers.three,
-            work1,
-            work2,
-        ),
-        3,
+        messages_right(sealer, lock, first, branch, answer, work1, work2),
+        Some(branch),
     )
 }
 
 // May fail anywhere, and leaves what it wrote in the work slices.
-fn outcome<K: ElementKind, S: Sealer>(
+fn outcome<'a, K: ElementKind, S: Sealer>(
     sealer: &S,
-    lock: &[u8],
-    first: &[u8],
-    answers: Answers<'_>,
+    lock: &'a [u8],
+    first: &'a [u8],
+    answer1: &'a [u8],
+    answer2: &'a [u8],
+    answer3: &'a [u8],
     work1: &mut [u8],
     work2: &mut [u8],
     key: &mut [u8],
 ) -> Result<Extracted, PickFault>
-    ensures outcome { result ≡ extracted K.kind S.sealing lock.now first.now (answers_of answers.entry) (length work1.old) (length work2.old) (length key.old) }
-    ensures key { key.new ≡ key_after K.kind S.sealing lock.now first.now (answers_of answers.entry) (length work1.old) (length work2.old) key.old }
+    ensures outcome { result ≡ extracted K.kind S.sealing lock.entry.now first.entry.now (by_branch answer1.entry.now answer2.entry.now answer3.entry.now) (length work1.old) (length work2.old) (length key.old) }
+    ensures key { key.new ≡ key_after K.kind S.sealing lock.entry.now first.entry.now (by_branch answer1.entry.now answer2.entry.now answer3.entry.now) (length work1.old) (length work2.old) key.old }
 {
-    let lock = at_pick(open_lock::<K>(lock), 0)?;
+    let lock = at_pick(OpenLock::<K>::read(lock), None)?;
     let sizes = sizes_right::<K, S>(
-        lock,
+        &lock,
         first.len(),
-        answers.one.len(),
-        answers.two.len(),
-        answers.three.len(),
+        answer1.len(),
+        answer2.len(),
+        answer3.len(),
         work1.len(),
         work2.len(),
         key.len(),
     );
-    at_pick(sizes, 0)?;
-    accepted::<K, S>(sealer, lock, first, answers, work1, work2)?;
-    Ok(give::<K, S>(lock, answers, key))
+    at_pick(sizes, None)?;
+    let answers = Accepted {
+        one: accepted(sealer, &lock, first, Branch::One, answer1, work1, work2)?,
+        two: accepted(sealer, &lock, first, Branch::Two, answer2, work1, work2)?,
+        three: accepted(sealer, &lock, first, Branch::Three, answer3, work1, work2)?,
+    };
+    Ok(answers.give(key))
 }
 
 // The answers are those to picks 1, 2 and 3. Both work slices are zero afterwards; the key buffer is written only where a key is found.
@@ -105,12 +87,9 @@ pub fn extract<'a, K: ElementKind, S: Sealer>(
     ensures cleared { work1.new ≡ work_after work1.old }
     ensures nextcleared { work2.new ≡ work_after work2.old }
 {
-    let answers = Answers {
-        one: answer1,
-        two: answer2,
-        three: answer3,
-    };
-    let found = outcome::<K, S>(sealer, lock, first, answers, work1, work2, key);
+    let found = outcome::<K, S>(
+        sealer, lock, first, answer1, answer2, answer3, work1, work2, key,
+    );
     clear(work1);
     clear(work2);
     found

@@ -1,16 +1,13 @@
-// A fault beside the pick that it speaks of.
+// A fault beside the pick that it speaks of, if any.
 ghost use Rattle.std.specs.Prelude.{◌≡◌};
-ghost use Rattle.extractor.specs.Picks.{at_pick};
+ghost use Rattle.theory.specs.Extraction.{at_pick};
 
-use faults::Fault;
+use faults::{Branch, Fault};
 use theory::PickFault;
 
-// The fault stays whole; pick 0 where it speaks of none.
-pub(crate) fn at_pick<T>(outcome: Result<T, Fault>, pick: u8) -> Result<T, PickFault>
+// The fault stays whole.
+pub(crate) fn at_pick<T>(outcome: Result<T, Fault>, pick: Option<Branch>) -> Result<T, PickFault>
     ensures { result ≡ at_pick pick outcome }
 {
-    match outcome {
-        Ok(value) => Ok(value),
-        Err(fault) => Err(PickFault { pick, fault }),
-    }
+    outcome.map_err(|fault| PickFault { pick, fault })
 }

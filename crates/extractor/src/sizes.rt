@@ -1,15 +1,15 @@
 // The sizes of an extractor's buffers.
 ghost use Rattle.std.specs.Prelude.{◌≡◌};
-ghost use Rattle.locks.specs.Locks.{summary_of};
-ghost use Rattle.extractor.specs.Sizes.{sizes_by};
+ghost use Rattle.theory.specs.Extraction.{extract_sizes};
 
-use faults::{Fault, Reason};
+use branches::checks::size_right;
+use branches::lock::OpenLock;
+use faults::Fault;
 use kinds::kind::ElementKind;
-use locks::lock::Lock;
 use seals::Sealer;
 
 pub(crate) fn sizes_right<K: ElementKind, S: Sealer>(
-    lock: Lock<'_>,
+    lock: &OpenLock<'_, K>,
     first: usize,
     answer1: usize,
     answer2: usize,
@@ -18,33 +18,16 @@ pub(crate) fn sizes_right<K: ElementKind, S: Sealer>(
     work2: usize,
     key: usize,
 ) -> Result<(), Fault>
-    ensures { result ≡ sizes_by K.kind S.sealing (summary_of lock.entry) first answer1 answer2 answer3 work1 work2 key }
+    ensures { result ≡ extract_sizes K.kind S.sealing lock.now first answer1 answer2 answer3 work1 work2 key }
 {
-    let answer = lock.answer_length::<K>();
-    let work = lock.work_length::<K>();
-    if lock.view_length::<K>() > S::longest_message() {
-        return Err(Fault::at(Reason::WrongSize, 0));
-    }
-    if first != lock.first_length::<K>(S::seal_length() as u8) {
-        return Err(Fault::at(Reason::WrongSize, 1));
-    }
-    if answer1 != answer {
-        return Err(Fault::at(Reason::WrongSize, 2));
-    }
-    if answer2 != answer {
-        return Err(Fault::at(Reason::WrongSize, 3));
-    }
-    if answer3 != answer {
-        return Err(Fault::at(Reason::WrongSize, 4));
-    }
-    if work1 < work {
-        return Err(Fault::at(Reason::WrongSize, 5));
-    }
-    if work2 < work {
-        return Err(Fault::at(Reason::WrongSize, 6));
-    }
-    if key != lock.key_length::<K>() {
-        return Err(Fault::at(Reason::WrongSize, 7));
-    }
-    Ok(())
+    let answer = lock.answer_length();
+    let work = lock.work_length();
+    size_right(lock.view_length() <= S::LONGEST, 0)?;
+    size_right(first == lock.first_length(S::LENGTH as u8), 1)?;
+    size_right(answer1 == answer, 2)?;
+    size_right(answer2 == answer, 3)?;
+    size_right(answer3 == answer, 4)?;
+    size_right(work1 >= work, 5)?;
+    size_right(work2 >= work, 6)?;
+    size_right(key == lock.key_length(), 7)
 }

@@ -1,2 +1,4 @@
 pub mod Numbers
+pub mod Branches
+pub mod Texts
 pub mod Outcomes

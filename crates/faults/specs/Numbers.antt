@@ -1,5 +1,6 @@
 -- The number of each reason: the one place where it stands.
-use Rattle.std.specs.Prelude.{◌≡◌, ℕ}
+use Rattle.std.specs.Prelude.{◌≡◌, ℕ, Some, None}
+use Rattle.faults.specs.declared.Branch.{Branch}
 use Rattle.faults.specs.declared.Reason.{Reason}
 use Rattle.faults.specs.declared.Fault.{Fault}
 
@@ -26,11 +27,11 @@ number_of Reason.WrongOutputShare = 19
 number_of Reason.WrongProduct = 20
 
 -- a refusal that speaks of branch b, and one that speaks of none
-abbrev pub fault_in : ℕ → Reason → ℕ → Fault
-fault_in b r p = record { reason = r; branch = b; place = p }
+abbrev pub fault_in : Branch → Reason → ℕ → Fault
+fault_in b r p = record { reason = r; branch = Some b; place = p }
 
 abbrev pub fault : Reason → ℕ → Fault
-fault r p = fault_in 0 r p
+fault r p = record { reason = r; branch = None; place = p }
 
 -- a number tells its reason
 abbrev pub NumbersDiffer : Type 0

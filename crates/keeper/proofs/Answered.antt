@@ -1,57 +1,43 @@
 -- An answer: what its tests tell, its bytes, and what it leaves.
-use Rattle.std.proofs.Common.{◌≡◌, ℕ, zero, suc, ◌+◌, ◌-◌, ◌*◌, ◌%◌, ◌≤◌, eqb, List, ◌∷◌, ◌++◌, take, drop, replicate, Ok, Result, sym, refl, ap, ◌∙◌, arith, eqb-true}
+use Rattle.std.proofs.Common.{◌≡◌, ℕ, ◌+◌, ◌*◌, ◌≤◌, eqb, List, ◌∷◌, ◌++◌, take, drop, replicate, Ok, Result, sym, ap, ◌∙◌, arith, eqb-true}
 use Rattle.faults.specs.declared.Fault.{Fault}
 use Rattle.faults.specs.declared.Reason.{Reason}
 use Rattle.faults.specs.Numbers.{fault}
 use Rattle.faults.specs.Outcomes.{check}
-use Rattle.faults.proofs.Passed.{err_ok, ok_same, check_ok, then_ok, map_ok_was}
+use Rattle.faults.proofs.Passed.{check_ok, then_ok}
 use Rattle.theory.specs.declared.RoundState.{RoundState}
-use Rattle.theory.specs.Runs.{next}
-use Rattle.theory.specs.declared.Branch.{Branch}
+use Rattle.faults.specs.declared.Branch.{Branch}
+use Rattle.faults.specs.Branches.{next, behind, pick_byte, picked}
 use Rattle.theory.specs.Messages.{answer_bytes}
 use Rattle.theory.specs.Store.{put, round_at, round_length}
 use Rattle.theory.specs.Tests.{left}
-use Rattle.theory.specs.Verdict.{picked}
-use Rattle.theory.specs.Keeper.{Keeper, round_open, answer_branch, answer_result, answer_size_for, ended, with_state}
-use Rattle.keeper.specs.Model.{branch_at, view_in}
+use Rattle.theory.specs.Keeper.{Keeper, round_open, answer_branch, answer_size_for, ended, with_state}
+use Rattle.keeper.specs.Model.{view_in}
 
-picked_is : (e : ℕ) (b : Branch) → picked e ≡ Ok b → (1 ≤ e) × (e ≤ 3) × (branch_at e ≡ b)
-picked_is zero b h = err_ok h
-picked_is (suc zero) b h = (omega arith, omega arith, ok_same h)
-picked_is (suc (suc zero)) b h = (omega arith, omega arith, ok_same h)
-picked_is (suc (suc (suc zero))) b h = (omega arith, omega arith, ok_same h)
-picked_is (suc (suc (suc (suc n)))) b h = err_ok h
-
-pub record Answering (k : Keeper) (r pick size : ℕ) : Type 0 where
+pub record Answering (k : Keeper) (r pick size : ℕ) (b : Branch) : Type 0 where
   pub opened : round_open k r ≡ Ok tt
-  pub low : 1 ≤ pick
-  pub high : pick ≤ 3
   pub sized : size ≡ answer_size_for k
-  pub branch : answer_branch k r pick size ≡ Ok (branch_at pick)
 
-pub answering : (k : Keeper) (r pick size : ℕ) → answer_result k r pick size ≡ Ok tt → Answering k r pick size
-answering k r pick size h =
-    let m = map_ok_was (λ _. tt) (answer_branch k r pick size) tt h in
-    let o = then_ok (round_open k r) _ m.0 m.1 in
-    let p = then_ok (picked pick) (λ b. check (eqb size (answer_size_for k)) (fault Reason.WrongSize 1) (Ok b)) m.0 o.2 in
-    let s = check_ok (eqb size (answer_size_for k)) (fault Reason.WrongSize 1) (Ok p.0) m.0 p.2 in
-    let b = picked_is pick p.0 p.1 in
-    record {
-      opened = o.1;
-      low = b.0;
-      high = b.1;
-      sized = eqb-true size (answer_size_for k) s.0;
-      branch = m.1 ∙ ap Ok (sym (ok_same s.1) ∙ sym b.2);
-    }
+pub answering : (k : Keeper) (r pick size : ℕ) (b : Branch) → answer_branch k r pick size ≡ Ok b → Answering k r pick size b
+answering k r pick size b h =
+    let o = then_ok (round_open k r) _ b h in
+    let p = then_ok (picked pick) (λ b. check (eqb size (answer_size_for k)) (fault Reason.WrongSize 1) (Ok b)) b o.2 in
+    let s = check_ok (eqb size (answer_size_for k)) (fault Reason.WrongSize 1) (Ok p.0) b p.2 in
+    record { opened = o.1; sized = eqb-true size (answer_size_for k) s.0 }
 
-pub answer_is : (p : ℕ) (s : List ℕ) (start L : ℕ) → 1 ≤ p → p ≤ 3
-    → 65 ∷ 78 ∷ p ∷ (take L (drop (start + L * (p - 1)) s) ++ take L (drop (start + L * (p % 3)) s))
-    ≡ answer_bytes (branch_at p) (view_in s start L (branch_at p)) (view_in s start L (next (branch_at p)))
-answer_is zero s start L h k = absurd (omega arith)
-answer_is (suc zero) s start L h k = refl
-answer_is (suc (suc zero)) s start L h k = refl
-answer_is (suc (suc (suc zero))) s start L h k = refl
-answer_is (suc (suc (suc (suc n)))) s start L h k = absurd (omega arith)
+-- no more than two branches stand before one
+pub two_before : (b : Branch) → behind b ≤ 2
+two_before Branch.One = omega arith
+two_before Branch.Two = omega arith
+two_before Branch.Three = omega arith
+
+pub answer_is : (b : Branch) (s : List ℕ) (start L number before after : ℕ) (x y : List ℕ) → number ≡ pick_byte b → before ≡ behind b → after ≡ behind (next b)
+    → x ≡ take L (drop (start + L * before) s) → y ≡ take L (drop (start + L * after) s)
+    → 65 ∷ 78 ∷ number ∷ (x ++ y) ≡ answer_bytes b (view_in s start L b) (view_in s start L (next b))
+answer_is b s start L number before after x y n p q d e =
+    let first : x ≡ view_in s start L b = d ∙ ap (λ (m : ℕ). take L (drop (start + L * m) s)) p in
+    let second : y ≡ view_in s start L (next b) = e ∙ ap (λ (m : ℕ). take L (drop (start + L * m) s)) q in
+    λ i. 65 ∷ 78 ∷ n i ∷ (first i ++ second i)
 
 -- a round's end, in the keeper's values
 pub ended_is : (k : Keeper) (r : ℕ) (s : RoundState) (store : List ℕ) (table : List RoundState)

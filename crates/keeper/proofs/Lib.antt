@@ -3,4 +3,3 @@ pub mod Rooms
 pub mod Answered
 pub mod Tested
 pub mod Promised
-pub mod Resumed

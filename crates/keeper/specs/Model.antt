@@ -1,8 +1,7 @@
 -- The code's keeper as its values, and what its inner functions speak of.
-use Rattle.std.specs.Prelude.{ℕ, zero, suc, ◌+◌, ◌*◌, ◌≤◌, List, length, take, drop}
-use Rattle.theory.specs.declared.Branch.{Branch}
-use Rattle.theory.specs.declared.Branch.TheVariants.{One as one, Two as two, Three as three}
-use Rattle.theory.specs.Messages.{behind}
+use Rattle.std.specs.Prelude.{ℕ, ◌+◌, ◌*◌, ◌≤◌, List, length, take, drop}
+use Rattle.faults.specs.declared.Branch.{Branch}
+use Rattle.faults.specs.Branches.{behind}
 use Rattle.theory.specs.declared.RoundState.{RoundState}
 use Rattle.theory.specs.Store.{rounds_in, round_at, round_length}
 use Rattle.theory.specs.Keeper.{Keeper as Values}
@@ -10,7 +9,7 @@ use Rattle.keeper.specs.declared.Keeper.{Keeper}
 
 -- its table has the records of the rounds promised so far
 abbrev pub values_of : Keeper → Values
-values_of k = record { view_size = k.view_length; capacity = k.capacity; store = k.store.now; table = take k.promised k.rounds.records }
+values_of k = record { view_size = k.view_length; capacity = k.capacity; store = k.store.now; table = k.records.items }
 
 -- a keeper of views of L bytes over a store whose rounds have these records
 abbrev pub resumed_from : (L : ℕ) (table : List RoundState) (store : List ℕ) → Values
@@ -20,13 +19,6 @@ resumed_from L table store = record {
   store = store;
   table = take (rounds_in L (length store)) table;
 }
-
--- the branch of a pick from 1 to 3
-abbrev pub branch_at : ℕ → Branch
-branch_at zero = one
-branch_at (suc zero) = one
-branch_at (suc (suc zero)) = two
-branch_at (suc (suc (suc n))) = three
 
 -- a round that lies in a store of n bytes
 pub record Placed (L r n : ℕ) : Type 0 where
@@ -38,6 +30,3 @@ pub record Placed (L r n : ℕ) : Type 0 where
 -- the view of a branch in the round that begins at `start`
 abbrev pub view_in : (store : List ℕ) (start L : ℕ) → Branch → List ℕ
 view_in store start L i = take L (drop (start + L * behind i) store)
-
-abbrev pub none : {A : Type 0} → A → Unit {0}
-none x = tt

@@ -1,11 +1,12 @@
 // The keeper's calls: each only tests, takes itself apart, and hands the store on.
 ghost use Rattle.std.specs.Prelude.{◌≡◌, length};
-ghost use Rattle.theory.specs.Keeper.{made_from, round_open, answer_result, answer_after, after_answer, drop_result, after_drop};
+ghost use Rattle.theory.specs.Keeper.{made_from, state_of, round_open, answer_branch, answer_result, answer_after, after_answer, drop_result, after_drop};
 ghost use Rattle.keeper.specs.Model.{values_of};
 
-use super::parts::{end_round, rounds_in, spend, test_pick};
-use super::{Keeper, Rounds};
-use faults::{Fault, Reason};
+use super::Keeper;
+use super::parts::{end_round, rounds_in, spend};
+use arrayvec::ArrayVec;
+use faults::{Branch, Fault, Reason};
 use theory::RoundState;
 
 impl<'a> Keeper<'a> {
@@ -19,16 +20,22 @@ impl<'a> Keeper<'a> {
             store,
             view_length,
             capacity,
-            promised: 0,
-            rounds: Rounds::new(),
+            records: ArrayVec::new(),
         }
+    }
+
+    // The record of a round, if it was promised.
+    fn record(&self, round: usize) -> Option<RoundState>
+        ensures { result ≡ state_of self.now.records.items round }
+    {
+        self.records.get(round.checked_sub(1)?).copied()
     }
 
     // Whether a round is promised, and neither answered nor dropped.
     fn open_round(&self, round: usize) -> Result<(), Fault>
         ensures { result ≡ round_open (values_of self.now) round }
     {
-        match self.rounds.at(self.promised, round) {
+        match self.record(round) {
             None => Err(Fault::at(Reason::UnknownRound, round)),
             Some(RoundState::Promised) => Ok(()),
             Some(RoundState::Answered | RoundState::Dropped) => Err(Fault::at(
@@ -38,15 +45,16 @@ impl<'a> Keeper<'a> {
         }
     }
 
-    fn answerable(&self, round: usize, pick: u8, size: usize) -> Result<(), Fault>
-        ensures { result ≡ answer_result (values_of self.now) round pick size }
+    // The branch of a pick that a round may answer into a buffer of that size.
+    fn answerable(&self, round: usize, pick: u8, size: usize) -> Result<Branch, Fault>
+        ensures { result ≡ answer_branch (values_of self.now) round pick size }
     {
         self.open_round(round)?;
-        test_pick(pick)?;
+        let branch = Branch::try_from(pick)?;
         if size != 3 + 2 * self.view_length {
             return Err(Fault::at(Reason::WrongSize, 1));
         }
-        Ok(())
+        Ok(branch)
     }
 
     // Opens the views of two branches of a round, once.
@@ -56,11 +64,9 @@ impl<'a> Keeper<'a> {
         ensures shown { out.new ≡ answer_after (values_of self.old) round pick out.old }
         ensures named { self.new.store.ghost_name ≡ self.old.store.ghost_name }
     {
-        self.answerable(round, pick, out.len())?;
-        let view_length = self.view_length;
-        let Keeper { store, rounds, .. } = self;
-        spend(store, view_length, round, pick, out);
-        rounds.mark(round, RoundState::Answered);
+        let branch = self.answerable(round, pick, out.len())?;
+        spend(self.store, self.view_length, round, branch, out);
+        self.records[round - 1] = RoundState::Answered;
         Ok(())
     }
 
@@ -71,10 +77,8 @@ impl<'a> Keeper<'a> {
         ensures named { self.new.store.ghost_name ≡ self.old.store.ghost_name }
     {
         self.open_round(round)?;
-        let view_length = self.view_length;
-        let Keeper { store, rounds, .. } = self;
-        end_round(store, view_length, round);
-        rounds.mark(round, RoundState::Dropped);
+        end_round(self.store, self.view_length, round);
+        self.records[round - 1] = RoundState::Dropped;
         Ok(())
     }
 }

@@ -1,23 +1,20 @@
 // Rounds in the store: where they lie, what an answer takes from them, and their end.
-ghost use Rattle.std.specs.Prelude.{◌≡◌, ◌+◌, ◌*◌, ◌≤◌, length, replicate};
-ghost use Rattle.faults.specs.Outcomes.{map_ok};
+ghost use Rattle.std.specs.Prelude.{◌≡◌, ◌+◌, ◌*◌, ◌<◌, ◌≤◌, length, replicate};
 ghost use Rattle.theory.specs.Runs.{next};
 ghost use Rattle.theory.specs.Messages.{answer_bytes};
 ghost use Rattle.theory.specs.Store.{rounds_in, round_at, round_length, put};
-ghost use Rattle.theory.specs.Verdict.{picked};
-ghost use Rattle.branches.specs.Walks.{circuit_of};
-ghost use Rattle.keeper.specs.Model.{branch_at, Placed, view_in, none};
-ghost use Rattle.keeper.specs.Promise.{round_for, first_for, Ready};
+ghost use Rattle.promises.specs.Drawn.{views_on, first_on};
+ghost use Rattle.keeper.specs.Model.{Placed, view_in};
+ghost use Rattle.keeper.specs.Promise.{Ready};
 
 use branches::bytes::clear;
-use branches::groups::group_length;
-use faults::{Fault, Reason};
+use branches::group::Group;
+use branches::lock::OpenLock;
+use faults::Branch;
 use kinds::kind::ElementKind;
 use locks::limits::LONGEST_VIEW;
-use locks::lock::Lock;
 use promises::round::write_round;
-use promises::shape::{Shape, copy_at, part};
-use promises::tape::split_tape;
+use promises::tape::Tape;
 use seals::Sealer;
 
 const MOST_ROUNDS: usize = 64;
@@ -27,7 +24,10 @@ const SHORTEST_VIEW: usize = 33;
 
 // How many rounds of views of that length a store of so many bytes holds.
 pub(crate) fn rounds_in(view_length: usize, bytes: usize) -> usize
-    ensures { result ≡ rounds_in view_length bytes }
+    ensures value { result ≡ rounds_in view_length bytes }
+    ensures few { result ≤ 64 }
+    ensures short { 0 < result → view_length ≤ 65535 }
+    ensures room { result * (3 * view_length) ≤ bytes }
 {
     if view_length < SHORTEST_VIEW || view_length > LONGEST_VIEW {
         return 0;
@@ -43,35 +43,26 @@ pub(crate) fn round_start(view_length: usize, round: usize) -> usize
     3 * view_length * (round - 1)
 }
 
-pub(crate) fn test_pick(pick: u8) -> Result<(), Fault>
-    ensures { result ≡ map_ok none (picked pick) }
+// A branch's view in the round that begins at `start`.
+fn view_at(store: &[u8], start: usize, view_length: usize, branch: Branch) -> &[u8]
+    requires { start + 3 * view_length ≤ length store.now }
+    ensures { result.now ≡ view_in store.now start view_length branch }
 {
-    match pick {
-        1 | 2 | 3 => Ok(()),
-        _ => Err(Fault::at(Reason::WrongPick, pick as usize)),
-    }
+    let at = start + view_length * branch.before();
+    &store[at..at + view_length]
 }
 
 // Mark, pick, and the views of that branch and the one after it, of the round that begins at `start`.
-fn write_answer(out: &mut [u8], store: &[u8], start: usize, view_length: usize, pick: u8)
+fn write_answer(out: &mut [u8], store: &[u8], start: usize, view_length: usize, branch: Branch)
     requires long { length out.old ≡ 3 + 2 * view_length }
     requires room { start + 3 * view_length ≤ length store.now }
-    requires pick { (1 ≤ pick) × (pick ≤ 3) }
-    ensures { out.new ≡ answer_bytes (branch_at pick) (view_in store.now start view_length (branch_at pick)) (view_in store.now start view_length (next (branch_at pick))) }
+    ensures { out.new ≡ answer_bytes branch (view_in store.now start view_length branch) (view_in store.now start view_length (next branch)) }
 {
-    copy_at(out, 0, &[b'A', b'N', pick]);
-    let picked = part(
-        store,
-        start + view_length * (pick as usize - 1),
-        view_length,
-    );
-    copy_at(out, 3, picked);
-    let following = part(
-        store,
-        start + view_length * (pick as usize % 3),
-        view_length,
-    );
-    copy_at(out, 3 + view_length, following);
+    let (head, views) = out.split_at_mut(3);
+    let (picked, following) = views.split_at_mut(view_length);
+    head.copy_from_slice(&[b'A', b'N', branch.number()]);
+    picked.copy_from_slice(view_at(store, start, view_length, branch));
+    following.copy_from_slice(view_at(store, start, view_length, branch.after()));
 }
 
 // Zeroes the round's place.
@@ -84,11 +75,16 @@ pub(crate) fn end_round(store: &mut [u8], view_length: usize, round: usize)
 }
 
 // Writes the answer from the round's place, and zeroes that place.
-pub(crate) fn spend(store: &mut [u8], view_length: usize, round: usize, pick: u8, out: &mut [u8])
+pub(crate) fn spend(
+    store: &mut [u8],
+    view_length: usize,
+    round: usize,
+    branch: Branch,
+    out: &mut [u8],
+)
     requires placed { Placed view_length round (length store.old) }
     requires long { length out.old ≡ 3 + 2 * view_length }
-    requires pick { (1 ≤ pick) × (pick ≤ 3) }
-    ensures out { out.new ≡ answer_bytes (branch_at pick) (view_in store.old (round_at view_length round) view_length (branch_at pick)) (view_in store.old (round_at view_length round) view_length (next (branch_at pick))) }
+    ensures out { out.new ≡ answer_bytes branch (view_in store.old (round_at view_length round) view_length branch) (view_in store.old (round_at view_length round) view_length (next branch)) }
     ensures store { store.new ≡ put store.old (round_at view_length round) (replicate (round_length view_length) 0) }
 {
     write_answer(
@@ -96,7 +92,7 @@ pub(crate) fn spend(store: &mut [u8], view_length: usize, round: usize, pick: u8
         store,
         round_start(view_length, round),
         view_length,
-        pick,
+        branch,
     );
     end_round(store, view_length, round);
 }
@@ -107,33 +103,25 @@ pub(crate) fn store_round<K: ElementKind, S: Sealer>(
     view_length: usize,
     round: usize,
     sealer: &S,
-    lock: Lock<'_>,
-    key: &[u8],
-    tape: &[u8],
+    lock: &OpenLock<'_, K>,
+    key: &Group<'_, K>,
+    tape: &Tape<'_, K>,
     work1: &mut [u8],
     work2: &mut [u8],
     work3: &mut [u8],
     first: &mut [u8],
 )
     requires placed { Placed view_length round (length store.old) }
-    requires ready { Ready K.ElementKind.kind S.Sealer.sealing lock view_length key.now tape.now (length work1.old) (length work2.old) (length work3.old) (length first.old) }
-    ensures store { store.new ≡ put store.old (round_at view_length round) (round_for K.ElementKind.kind (circuit_of K.ElementKind.kind lock.entry) key.now tape.now) }
-    ensures first { first.new ≡ first_for K.ElementKind.kind S.Sealer.sealing (circuit_of K.ElementKind.kind lock.entry) key.now tape.now }
+    requires ready { Ready K.ElementKind.kind S.Sealer.sealing lock.now view_length key.now tape.now (length work1.old) (length work2.old) (length work3.old) (length first.old) }
+    ensures store { store.new ≡ put store.old (round_at view_length round) (views_on K.ElementKind.kind lock.now key.now tape.now) }
+    ensures first { first.new ≡ first_on K.ElementKind.kind lock.now key.now tape.now S.Sealer.sealing }
 {
     let start = round_start(view_length, round);
-    let parts = split_tape::<K>(lock, tape);
-    let products = lock.products as usize;
-    let shape = Shape {
-        view_length,
-        products,
-        products_at: 32 + (lock.key_length::<K>() + group_length::<K>(products)),
-    };
-    write_round::<K, S>(
+    write_round(
         sealer,
         lock,
         key,
-        parts,
-        shape,
+        tape,
         work1,
         work2,
         work3,

@@ -1,71 +1,52 @@
 // A promise.
-ghost use Rattle.std.specs.Prelude.{◌≡◌, [], length, Ok};
-ghost use Rattle.faults.specs.Outcomes.{and_then};
+ghost use Rattle.std.specs.Prelude.{◌≡◌, [], length};
 ghost use Rattle.theory.specs.Tests.{left};
 ghost use Rattle.theory.specs.Keeper.{given as given_to, promise_result, first_after, after_promise, kept, work_after};
-ghost use Rattle.branches.specs.Walks.{Stands, circuit_of};
 ghost use Rattle.keeper.specs.Model.{values_of};
-ghost use Rattle.keeper.specs.Promise.{next_round, tested, secrets_right, Counted, lengths_of, promised_to, views_for, first_for};
+ghost use Rattle.keeper.specs.Promise.{next_round, tested, lengths_of, promised_to, views_for, first_for};
 
 use super::Keeper;
 use super::parts::store_round;
-use super::tests::{Lengths, test_secrets, test_sizes};
+use super::tests::{Lengths, read_secrets, test_sizes};
 use branches::bytes::clear;
-use branches::walk::open_lock;
+use branches::lock::OpenLock;
 use faults::{Fault, Reason};
 use kinds::kind::ElementKind;
-use locks::lock::Lock;
 use seals::Sealer;
 use theory::RoundState;
-
-// The round, if the last test passed.
-fn passed_by(round: usize, last: Result<(), Fault>) -> Result<usize, Fault>
-    ensures { result ≡ and_then last (λ _. Ok round) }
-{
-    match last {
-        Ok(()) => Ok(round),
-        Err(fault) => Err(fault),
-    }
-}
 
 impl<'a> Keeper<'a> {
     // The number of the next round, if there is one left.
     fn next_round(&self) -> Result<usize, Fault>
         ensures { result ≡ next_round (values_of self.now) }
     {
-        if self.promised < self.capacity {
-            Ok(self.promised + 1)
+        if self.records.len() < self.capacity {
+            Ok(self.records.len() + 1)
         } else {
             Err(Fault::at(Reason::KeeperFull, self.capacity))
         }
     }
 
-    // All tests of a promise once its lock is read; the key is run in the work space.
+    // The tests of a promise that look at no secret; gives the round.
     fn test_promise<K: ElementKind, S: Sealer>(
         &self,
-        lock: Lock<'_>,
-        key: &[u8],
-        tape: &[u8],
-        work: &mut [u8],
+        lock: &OpenLock<'_, K>,
         given: Lengths,
     ) -> Result<usize, Fault>
-        requires stands { Stands K.ElementKind.kind lock }
-        requires counted { Counted given (length key.now) (length tape.now) (length work.old) }
-        ensures { result ≡ tested (values_of self.now) K.ElementKind.kind S.Sealer.sealing lock.entry.inputs lock.entry.gates lock.entry.outputs lock.entry.products given (secrets_right K.ElementKind.kind (circuit_of K.ElementKind.kind lock.entry) key.now tape.now) }
+        ensures { result ≡ tested (values_of self.now) K.ElementKind.kind S.Sealer.sealing lock.now given }
     {
         test_sizes::<K, S>(lock, given)?;
-        if lock.view_length::<K>() != self.view_length {
+        if lock.view_length() != self.view_length {
             return Err(Fault::at(Reason::WrongSize, 7));
         }
-        let round = self.next_round()?;
-        passed_by(round, test_secrets::<K>(lock, key, tape, work))
+        self.next_round()
     }
 
     // A promise whose lock was read. A refusal leaves all but the first work space as it was.
     fn promise_lock<K: ElementKind, S: Sealer>(
         &mut self,
         sealer: &S,
-        lock: Lock<'_>,
+        lock: &OpenLock<'_, K>,
         key: &[u8],
         tape: &[u8],
         work1: &mut [u8],
@@ -73,10 +54,9 @@ impl<'a> Keeper<'a> {
         work3: &mut [u8],
         first: &mut [u8],
     ) -> Result<usize, Fault>
-        requires stands { Stands K.ElementKind.kind lock }
-        ensures outcome { result ≡ promised_to (values_of self.old) K.ElementKind.kind S.Sealer.sealing lock.entry key.now tape.now (length work1.old) (length work2.old) (length work3.old) (length first.old) }
-        ensures after { values_of self.new ≡ left result (λ n. kept (values_of self.old) n (views_for K.ElementKind.kind (circuit_of K.ElementKind.kind lock.entry) key.now tape.now)) (values_of self.old) }
-        ensures shown { first.new ≡ left result (λ _. first_for K.ElementKind.kind S.Sealer.sealing (circuit_of K.ElementKind.kind lock.entry) key.now tape.now) first.old }
+        ensures outcome { result ≡ promised_to (values_of self.old) K.ElementKind.kind S.Sealer.sealing lock.now key.now tape.now (lengths_of (length key.now) (length tape.now) (length work1.old) (length work2.old) (length work3.old) (length first.old)) }
+        ensures after { values_of self.new ≡ left result (λ n. kept (values_of self.old) n (views_for K.ElementKind.kind lock.now key.now tape.now)) (values_of self.old) }
+        ensures shown { first.new ≡ left result (λ _. first_for K.ElementKind.kind lock.now key.now tape.now S.Sealer.sealing) first.old }
         ensures named { self.new.store.ghost_name ≡ self.old.store.ghost_name }
     {
         let given = Lengths {
@@ -87,29 +67,22 @@ impl<'a> Keeper<'a> {
             work3: work3.len(),
             first: first.len(),
         };
-        let round = self.test_promise::<K, S>(lock, key, tape, work1, given)?;
-        let view_length = self.view_length;
-        let Keeper {
-            store,
-            promised,
-            rounds,
-            ..
-        } = self;
-        store_round::<K, S>(
-            store,
-            view_length,
+        let round = self.test_promise::<K, S>(lock, given)?;
+        let (key, tape) = read_secrets(lock, key, tape, work1)?;
+        store_round(
+            self.store,
+            self.view_length,
             round,
             sealer,
             lock,
-            key,
-            tape,
+            &key,
+            &tape,
             work1,
             work2,
             work3,
             first,
         );
-        *promised = round;
-        rounds.mark(round, RoundState::Promised);
+        self.records.push(RoundState::Promised);
         Ok(round)
     }
 
@@ -129,12 +102,8 @@ impl<'a> Keeper<'a> {
         ensures shown { first.new ≡ first_after (values_of self.old) (given_to K.ElementKind.kind S.Sealer.sealing lock.now key.now tape.now (length work1.old) (length work2.old) (length work3.old) (length first.old)) first.old }
         ensures named { self.new.store.ghost_name ≡ self.old.store.ghost_name }
     {
-        match open_lock::<K>(lock) {
-            Ok(lock) => self.promise_lock::<K, S>(
-                sealer, lock, key, tape, work1, work2, work3, first,
-            ),
-            Err(fault) => Err(fault),
-        }
+        let lock = OpenLock::<K>::read(lock)?;
+        self.promise_lock(sealer, &lock, key, tape, work1, work2, work3, first)
     }
 
     // Commits to a run of the key: writes the three views into the round's place and their seals into the first message.

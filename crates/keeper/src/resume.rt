@@ -3,8 +3,9 @@ ghost use Rattle.std.specs.Prelude.{◌≡◌, ◌≤◌, length};
 ghost use Rattle.theory.specs.Store.{rounds_in};
 ghost use Rattle.keeper.specs.Model.{values_of, resumed_from};
 
+use super::Keeper;
 use super::parts::rounds_in;
-use super::{Keeper, Rounds};
+use arrayvec::ArrayVec;
 use theory::RoundState;
 
 impl<'a> Keeper<'a> {
@@ -23,13 +24,13 @@ impl<'a> Keeper<'a> {
     {
         let capacity = rounds_in(view_length, store.len());
         let promised = capacity.min(table.len());
-        let rounds = Rounds::starting(&table[0..promised]);
+        let mut records = ArrayVec::new();
+        records.try_extend_from_slice(&table[..promised]).unwrap();
         Keeper {
             store,
             view_length,
             capacity,
-            promised,
-            rounds,
+            records,
         }
     }
 
@@ -37,6 +38,6 @@ impl<'a> Keeper<'a> {
     pub fn records(&self) -> &[RoundState]
         ensures { result.now ≡ (values_of self.now).table }
     {
-        self.rounds.front(self.promised)
+        self.records.as_slice()
     }
 }

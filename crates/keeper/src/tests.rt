@@ -1,15 +1,17 @@
 // The tests of a promise, but for the keeper's own.
-ghost use Rattle.std.specs.Prelude.{◌≡◌, ◌+◌, ◌*◌, ◌≤◌, length};
-ghost use Rattle.kinds.specs.Groups.{group_length};
-ghost use Rattle.locks.specs.Lengths.{view_length, tape_length};
-ghost use Rattle.branches.specs.Walks.{Stands, circuit_of};
-ghost use Rattle.keeper.specs.Promise.{size_right, buffers_right, sizes_right, secrets_right};
+ghost use Rattle.std.specs.Prelude.{◌≡◌, ◌≤◌, length};
+ghost use Rattle.faults.specs.Outcomes.{map_ok};
+ghost use Rattle.theory.specs.Messages.{key_of, length_of_key, length_of_tape, length_of_work};
+ghost use Rattle.promises.specs.Drawn.{drawn_in};
+ghost use Rattle.keeper.specs.Promise.{sizes_right, secrets_right};
 
-use faults::{Fault, Reason};
+use branches::checks::size_right;
+use branches::group::Group;
+use branches::lock::OpenLock;
+use faults::Fault;
 use kinds::kind::ElementKind;
-use locks::lock::Lock;
-use promises::key::test_key;
-use promises::tape::{split_tape, test_tape};
+use promises::key::read_key;
+use promises::tape::Tape;
 use seals::Sealer;
 
 // The lengths of what a promise is given.
@@ -23,54 +25,34 @@ pub struct Lengths {
     pub first: usize,
 }
 
-fn test_size(right: bool, place: usize) -> Result<(), Fault>
-    ensures { result ≡ size_right right place }
-{
-    if right {
-        Ok(())
-    } else {
-        Err(Fault::at(Reason::WrongSize, place))
-    }
-}
-
-fn test_buffers<K: ElementKind, S: Sealer>(lock: Lock<'_>, given: Lengths) -> Result<(), Fault>
-    ensures { result ≡ buffers_right K.ElementKind.kind S.Sealer.sealing lock.entry.inputs lock.entry.gates lock.entry.outputs given }
-{
-    let work = lock.work_length::<K>();
-    test_size(work <= given.work1, 3)?;
-    test_size(work <= given.work2, 4)?;
-    test_size(work <= given.work3, 5)?;
-    test_size(
-        given.first == lock.first_length::<K>(S::seal_length() as u8),
-        6,
-    )
-}
-
 pub(crate) fn test_sizes<K: ElementKind, S: Sealer>(
-    lock: Lock<'_>,
+    lock: &OpenLock<'_, K>,
     given: Lengths,
 ) -> Result<(), Fault>
-    ensures { result ≡ sizes_right K.ElementKind.kind S.Sealer.sealing lock.entry.inputs lock.entry.gates lock.entry.outputs lock.entry.products given }
+    ensures { result ≡ sizes_right K.ElementKind.kind S.Sealer.sealing lock.now given }
 {
-    test_size(lock.view_length::<K>() <= S::longest_message(), 0)?;
-    test_size(given.key == lock.key_length::<K>(), 1)?;
-    test_size(given.tape == lock.tape_length::<K>(), 2)?;
-    test_buffers::<K, S>(lock, given)
+    size_right(lock.view_length() <= S::LONGEST, 0)?;
+    size_right(given.key == lock.key_length(), 1)?;
+    size_right(given.tape == lock.tape_length(), 2)?;
+    size_right(given.work1 >= lock.work_length(), 3)?;
+    size_right(given.work2 >= lock.work_length(), 4)?;
+    size_right(given.work3 >= lock.work_length(), 5)?;
+    size_right(given.first == lock.first_length(S::LENGTH as u8), 6)
 }
 
 // The key, then the tape.
-pub(crate) fn test_secrets<K: ElementKind>(
-    lock: Lock<'_>,
-    key: &[u8],
-    tape: &[u8],
+pub(crate) fn read_secrets<'a, K: ElementKind>(
+    lock: &OpenLock<'_, K>,
+    key: &'a [u8],
+    tape: &'a [u8],
     work: &mut [u8],
-) -> Result<(), Fault>
-    requires stands { Stands K.kind lock }
-    requires within { (lock.inputs + lock.gates) * K.kind.width ≤ length work.old }
-    requires key { length key.now ≡ group_length K.kind lock.inputs }
-    requires tape { length tape.now ≡ tape_length K.kind lock.inputs lock.products }
-    ensures { result ≡ secrets_right K.kind (circuit_of K.kind lock.entry) key.now tape.now }
+) -> Result<(Group<'a, K>, Tape<'a, K>), Fault>
+    requires key { length key.now ≡ length_of_key K.kind lock.now }
+    requires tape { length tape.now ≡ length_of_tape K.kind lock.now }
+    requires room { length_of_work K.kind lock.now ≤ length work.old }
+    ensures { result ≡ map_ok (λ _. (key_of K.kind lock.now key.now, drawn_in K.kind lock.now tape.now)) (secrets_right K.kind lock.now key.now tape.now) }
 {
-    test_key::<K>(lock, key, work)?;
-    test_tape::<K>(lock, split_tape::<K>(lock, tape))
+    let key = read_key(lock, key, work)?;
+    let tape = Tape::read(lock, tape)?;
+    Ok((key, tape))
 }

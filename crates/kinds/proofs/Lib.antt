@@ -1,4 +1,2 @@
-pub mod Items
 pub mod GroupLengths
 pub mod Same
-pub mod ReadBack

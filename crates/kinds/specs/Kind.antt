@@ -1,7 +1,7 @@
 -- What an element kind is: functions of rows, and the laws that they keep.
 -- A ring-like structure: an additive group whose product distributes over the sum on both sides.
 -- Nothing is said of commuting or associating products.
-use Rattle.std.specs.Prelude.{◌≡◌, ℕ, ◌<◌, ◌≤◌, Bool, true, false, cond, List, [], ◌∷◌, length, ◌==◌}
+use Rattle.std.specs.Prelude.{◌≡◌, ℕ, ◌<◌, ◌≤◌, Bool, true, List, length, bytes_eq}
 use Rattle.std.specs.List.{AllByRecursion}
 
 -- an element is told by its row, a list of `width` bytes; a row that belongs to no element is unlawful
@@ -40,7 +40,4 @@ pub record Laws (k : Kind) : Type 0 where
 
 -- are two rows equal?
 abbrev pub same_row : List ℕ → List ℕ → Bool
-same_row [] [] = true
-same_row [] (y ∷ ys) = false
-same_row (x ∷ xs) [] = false
-same_row (x ∷ xs) (y ∷ ys) = cond (x == y) (same_row xs ys) false
+same_row = bytes_eq

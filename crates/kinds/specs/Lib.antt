@@ -4,3 +4,5 @@ pub mod Numbers
 pub mod Three
 pub mod BitLaws
 pub mod ModularLaws
+pub mod Equal
+pub mod Names

@@ -1,20 +1,15 @@
 -- The laws of arithmetic modulo m in four bytes, for every m up to 2 ^ 32.
 use Rattle.std.specs.Prelude.{◌≡◌, ℕ, suc, ◌+◌, ◌-◌, ◌*◌, ◌/◌, ◌%◌, ◌<◌, ◌≤◌, true, ◌&&◌, ltb, List, [], ◌∷◌, length, ◌==◌, nat_lt, refl}
-use Rattle.std.proofs.Common.{sym, ap, ◌∙◌, arith, mod-lt, mod-eq_of_lt, add_assoc, add_comm, mul-add, add-mul, mul_comm, mul_left_comm, lit≤}
-use Rattle.std.proofs.Math.Nat.{mod_self, mod-add-mod, add-mod-mod, div-add-mod, mul-add-mod_self_left, div-div-eq-div-mul}
+use Rattle.std.proofs.Common.{sym, ap, ◌∙◌, arith, mod-lt, mod-eq_of_lt, add_assoc, add_comm, mul-add, add-mul, lit≤}
+use Rattle.std.proofs.Math.Nat.{mod_self, mod-add-mod, add-mod-mod}
+use Rattle.std.proofs.lemmas.Nat.{from_be_bytes-to_be_bytes_4, mul-mod_first, mul-mod_second}
 use Rattle.std.proofs.lemmas.Bool.{false≢true, and_parts, and_from, eqb-true, ltb-true, lt-ltb}
 use Rattle.kinds.specs.Kind.{Laws, Lawful, Bytes}
 use Rattle.kinds.specs.Numbers.{number_of, four_bytes, all_bytes}
 use Rattle.kinds.specs.Three.{modular}
 
 pub number_four : (n : ℕ) → n < 4294967296 → number_of (four_bytes n) ≡ n
-number_four n h =
-    let e1 = div-add-mod n 256 in
-    let e2 : 256 * (n / 65536) + n / 256 % 256 ≡ n / 256 = ap (λ (q : ℕ). 256 * q + n / 256 % 256) (sym (div-div-eq-div-mul n 256 256)) ∙ div-add-mod (n / 256) 256 in
-    let e3 : 256 * (n / 16777216) + n / 65536 % 256 ≡ n / 65536 = ap (λ (q : ℕ). 256 * q + n / 65536 % 256) (sym (div-div-eq-div-mul n 65536 256)) ∙ div-add-mod (n / 65536) 256 in
-    let top : n / 16777216 < 256 = omega arith in
-    let e4 : n / 16777216 % 256 ≡ n / 16777216 = mod-eq_of_lt top in
-    omega (arith, e1, e2, e3, e4)
+number_four n h = from_be_bytes-to_be_bytes_4 n h
 
 pub four_number : (a b c d : ℕ) → a < 256 → b < 256 → c < 256 → d < 256 → four_bytes (a * 16777216 + b * 65536 + c * 256 + d) ≡ a ∷ b ∷ c ∷ d ∷ []
 four_number a b c d ha hb hc hd =
@@ -47,17 +42,8 @@ four_of m k (a ∷ b ∷ c ∷ d ∷ e ∷ x) h =
     let l : ℕ = suc (suc (suc (suc (suc (length x))))) in
     absurd (omega (arith, eqb-true (length (a ∷ b ∷ c ∷ d ∷ e ∷ x)) 4 (and_parts (length (a ∷ b ∷ c ∷ d ∷ e ∷ x) == 4) (all_bytes (a ∷ b ∷ c ∷ d ∷ e ∷ x) && nat_lt (number_of (a ∷ b ∷ c ∷ d ∷ e ∷ x)) m) h).0))
 
-mul_mod_mod : (a n m : ℕ) → a * (n % m) % m ≡ a * n % m
-mul_mod_mod a n m =
-    let whole : m * (a * (n / m)) + a * (n % m) ≡ a * n =
-    ap (λ (q : ℕ). q + a * (n % m)) (mul_left_comm m a (n / m)) ∙ sym (mul-add a (m * (n / m)) (n % m)) ∙ ap (λ (q : ℕ). a * q) (div-add-mod n m) in
-    sym (mul-add-mod_self_left m (a * (n / m)) (a * (n % m))) ∙ ap (λ (q : ℕ). q % m) whole
-
-mod_mul_mod : (a n m : ℕ) → (a % m) * n % m ≡ a * n % m
-mod_mul_mod a n m = ap (λ (q : ℕ). q % m) (mul_comm (a % m) n) ∙ mul_mod_mod n a m ∙ ap (λ (q : ℕ). q % m) (mul_comm n a)
-
 module _ (k m : ℕ) (some : 0 < m) (most : m ≤ 4294967296) where
-  lawful_four : (n : ℕ) → n < m → Lawful (modular k m) (four_bytes n)
+  pub lawful_four : (n : ℕ) → n < m → Lawful (modular k m) (four_bytes n)
   lawful_four n h =
       let small : (j : ℕ) → nat_lt (j % 256) 256 ≡ true = λ j. lt-ltb (j % 256) 256 (omega arith) in
       let e : number_of (four_bytes n) ≡ n = number_four n (omega arith) in
@@ -103,13 +89,13 @@ module _ (k m : ℕ) (some : 0 < m) (most : m ≤ 4294967296) where
     mul_add = λ x y z h l n.
         ap four_bytes
         (ap (λ (q : ℕ). (number_of x * q) % m) (number_mod (number_of y + number_of z))
-        ∙ mul_mod_mod (number_of x) (number_of y + number_of z) m
+        ∙ mul-mod_second (number_of x) (number_of y + number_of z) m
         ∙ ap (λ (q : ℕ). q % m) (mul-add (number_of x) (number_of y) (number_of z))
         ∙ sums (number_of x * number_of y) (number_of x * number_of z));
     add_mul = λ x y z h l n.
         ap four_bytes
         (ap (λ (q : ℕ). (q * number_of z) % m) (number_mod (number_of x + number_of y))
-        ∙ mod_mul_mod (number_of x + number_of y) (number_of z) m
+        ∙ mul-mod_first (number_of x + number_of y) (number_of z) m
         ∙ ap (λ (q : ℕ). q % m) (add-mul (number_of x) (number_of y) (number_of z))
         ∙ sums (number_of x * number_of z) (number_of y * number_of z));
   }

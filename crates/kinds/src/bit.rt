@@ -1,39 +1,43 @@
 // The bit kind: rows 0 and 1, exclusive or, and.
-ghost use Rattle.std.specs.Prelude.{◌<◌, [], ◌∷◌};
+ghost use Rattle.std.specs.Prelude.{◌<◌, [], ◌∷◌, refl};
 ghost use Rattle.kinds.specs.Three.{bit_kind};
 ghost use Rattle.kinds.specs.BitLaws.{bit_laws};
 ghost use Rattle.std.proofs.Common.{rules, arith};
 
 use super::kind::{ElementKind, WrongLength};
+use super::name::KindName;
 
-#[derive(Clone, Copy)]
+// A byte and no bool: sums of bools compile to slower code.
+#[derive(Clone, Copy, PartialEq, Eq)]
 pub struct Bit {
     value: u8,
     ghost below: { value < 2 },
 }
 
 impl ElementKind for Bit {
-    const NUMBER: u8 = 1;
+    const NUMBER: u8 = KindName::Bit as u8;
 
     const WIDTH: usize = 1;
+
+    ghost NUMBER = { 1 };
+
+    ghost WIDTH = { 1 };
+
+    ghost number_is = { refl };
+
+    ghost width_is = { refl };
 
     ghost kind = { bit_kind };
 
     ghost row = { λ x. x.value ∷ [] };
+
+    ghost equal = { Prim.search rules };
 
     ghost laws = { bit_laws };
 
     ghost lawful = { Prim.search rules };
 
     ghost same = { Prim.grind (arith, Self.row.coded.inj) };
-
-    fn kind_number() -> u8 {
-        Self::NUMBER
-    }
-
-    fn row_length() -> usize {
-        Self::WIDTH
-    }
 
     fn zero() -> Bit {
         Bit { value: 0 }
@@ -55,10 +59,6 @@ impl ElementKind for Bit {
         }
     }
 
-    fn equals(self, other: Bit) -> bool {
-        self.value == other.value
-    }
-
     fn read(bytes: &[u8]) -> Option<Bit> {
         match bytes {
             [value] if *value < 2 => Some(Bit { value: *value }),
@@ -70,7 +70,7 @@ impl ElementKind for Bit {
         if out.len() != 1 {
             return Err(WrongLength);
         }
-        out[0] = self.value;
+        out.copy_from_slice(&[self.value]);
         Ok(())
     }
 }

@@ -3,6 +3,8 @@
 
 pub mod bit;
 pub mod kind;
+mod modular;
+pub mod name;
 pub mod residue;
 pub mod trips;
 pub mod word;

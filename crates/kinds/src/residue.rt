@@ -1,86 +1,21 @@
 // The residue kind: rows below p = 2,147,483,647, arithmetic modulo p.
-ghost use Rattle.std.specs.Prelude.{◌<◌};
-ghost use Rattle.kinds.specs.Numbers.{four_bytes};
-ghost use Rattle.kinds.specs.Three.{residue_kind};
-ghost use Rattle.std.proofs.Common.{lit≤, rules, arith};
-ghost use Rattle.kinds.specs.ModularLaws.{modular_laws};
+ghost use Rattle.std.proofs.Common.{lit≤};
 
-use super::kind::{ElementKind, WrongLength};
+use super::modular::{Modular, Modulus};
+use super::name::KindName;
 
-const P: u32 = 2_147_483_647;
+pub type Residue = Modular<Mersenne31>;
 
-#[derive(Clone, Copy)]
-pub struct Residue {
-    value: u32,
-    ghost below: { value < 2147483647 },
-}
+pub struct Mersenne31;
 
-impl ElementKind for Residue {
-    const NUMBER: u8 = 3;
+impl Modulus for Mersenne31 {
+    const NUMBER: u8 = KindName::Residue as u8;
 
-    const WIDTH: usize = 4;
+    const LARGEST: u32 = 2_147_483_646;
 
-    ghost kind = { residue_kind };
+    ghost NUMBER = { 3 };
 
-    ghost row = { λ x. four_bytes x.value };
+    ghost LARGEST = { 2147483646 };
 
-    ghost laws = { modular_laws 3 2147483647 (lit≤ tt) (lit≤ tt) };
-
-    ghost lawful = { Prim.search rules };
-
-    ghost same = { Prim.grind (arith, Self.row.coded.inj) };
-
-    fn kind_number() -> u8 {
-        Self::NUMBER
-    }
-
-    fn row_length() -> usize {
-        Self::WIDTH
-    }
-
-    fn zero() -> Residue {
-        Residue { value: 0 }
-    }
-
-    fn sum(self, other: Residue) -> Residue {
-        Residue {
-            value: (self.value + other.value) % P,
-        }
-    }
-
-    fn negative(self) -> Residue {
-        Residue {
-            value: (P - self.value) % P,
-        }
-    }
-
-    fn product(self, other: Residue) -> Residue {
-        Residue {
-            value: (self.value as u64 * other.value as u64 % P as u64) as u32,
-        }
-    }
-
-    fn equals(self, other: Residue) -> bool {
-        self.value == other.value
-    }
-
-    fn read(bytes: &[u8]) -> Option<Residue> {
-        let [a, b, c, d] = bytes else {
-            return None;
-        };
-        let value = u32::from_be_bytes([*a, *b, *c, *d]);
-        if value < P {
-            Some(Residue { value })
-        } else {
-            None
-        }
-    }
-
-    fn write(self, out: &mut [u8]) -> Result<(), WrongLength> {
-        if out.len() != 4 {
-            return Err(WrongLength);
-        }
-        out.copy_from_slice(&self.value.to_be_bytes());
-        Ok(())
-    }
+    ghost most = { lit≤ tt };
 }

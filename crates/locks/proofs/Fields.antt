@@ -7,10 +7,10 @@ use Rattle.kinds.specs.Groups.{group_length}
 use Rattle.kinds.specs.Numbers.{number_of, four_bytes}
 use Rattle.kinds.specs.ModularLaws.{four_number}
 use Rattle.kinds.proofs.GroupLengths.{group_grows, group_short}
-use Rattle.locks.specs.declared.records.GateMark.{GateMark}
 use Rattle.locks.specs.Limits.{most_inputs, longest_view}
 use Rattle.locks.specs.Lengths.{view_length}
-use Rattle.locks.specs.Reading.{marked, gate_mark}
+use Rattle.locks.specs.Reading.{GateMark, marked, gate_mark}
+use Rattle.locks.specs.Refusing.{first_letter, second_letter}
 
 -- four bytes and what lies behind them
 pub number_spelled : (xs : List ℕ) → Bytes xs → 4 ≤ length xs → four_bytes (number_of xs) ++ drop 4 xs ≡ xs
@@ -37,27 +37,14 @@ mark_spelled a b (x ∷ y ∷ xs) h k =
     let p = and_parts (eqb x a) (eqb y b) h in
     λ i. sym (eqb-true x a p.0) i ∷ sym (eqb-true y b p.1) i ∷ xs
 
--- the letters of a gate's mark
-abbrev pub first_letter : GateMark → ℕ
-first_letter GateMark.AddConstant = 65
-first_letter GateMark.MultiplyConstant = 77
-first_letter GateMark.Add = 65
-first_letter GateMark.Multiply = 77
-
-abbrev pub second_letter : GateMark → ℕ
-second_letter GateMark.AddConstant = 67
-second_letter GateMark.MultiplyConstant = 67
-second_letter GateMark.Add = 68
-second_letter GateMark.Multiply = 85
+pub begins_so : (a b : ℕ) (xs : List ℕ) → marked a b xs ≡ true → 2 ≤ length xs → take 2 xs ≡ a ∷ b ∷ []
+begins_so a b xs h k = ap (take 2) (sym (mark_spelled a b xs h k))
 
 pub gate_marked : (xs : List ℕ) (m : GateMark) → gate_mark xs ≡ Some m → marked (first_letter m) (second_letter m) xs ≡ true
 gate_marked xs m h = go (marked 65 67 xs) (marked 77 67 xs) (marked 65 68 xs) (marked 77 85 xs) refl refl refl refl h
   where
-    some_same : (n : GateMark) → ◌≡◌ {A = Option GateMark} (Some n) (Some m) → n ≡ m
-    some_same n e = cc
-
     at : (n : GateMark) → marked (first_letter n) (second_letter n) xs ≡ true → ◌≡◌ {A = Option GateMark} (Some n) (Some m) → marked (first_letter m) (second_letter m) xs ≡ true
-    at n e k = subst (λ x. marked (first_letter x) (second_letter x) xs ≡ true) (some_same n k) e
+    at n e k = subst (λ x. marked (first_letter x) (second_letter x) xs ≡ true) (let same : n ≡ m = cc in same) e
 
     go : (p q r s : Bool) → marked 65 67 xs ≡ p → marked 77 67 xs ≡ q → marked 65 68 xs ≡ r → marked 77 85 xs ≡ s
         → ◌≡◌ {A = Option GateMark} (cond p (Some GateMark.AddConstant) (cond q (Some GateMark.MultiplyConstant) (cond r (Some GateMark.Add) (cond s (Some GateMark.Multiply) None)))) (Some m)
@@ -66,7 +53,7 @@ gate_marked xs m h = go (marked 65 67 xs) (marked 77 67 xs) (marked 65 68 xs) (m
     go false true r s ep eq er es k = at GateMark.MultiplyConstant eq k
     go false false true s ep eq er es k = at GateMark.Add er k
     go false false false true ep eq er es k = at GateMark.Multiply es k
-    go false false false false ep eq er es k = let z : ◌≡◌ {A = ℕ} 0 1 = cc in absurd (omega arith)
+    go false false false false ep eq er es k = cc
 
 module _ (K : Kind) where
   -- a view grows with its products

@@ -2,22 +2,21 @@
 use Rattle.std.proofs.Common.{◌≡◌, ℕ, zero, suc, ◌+◌, ◌<◌, ◌≤◌, Bool, true, false, ltb, leb, ◌⊎◌, List, [], ◌∷◌, ◌++◌, length, take, drop, Some, None, Ok, Err, Option, Result, sym, refl, ap, ◌∙◌, subst, inl, inr, ⊎_elim, append_assoc, add-zero, arith, length-append, length-drop}
 use Rattle.std.specs.List.{flat_map}
 use Rattle.std.proofs.lemmas.List.{take-append-drop}
-use Rattle.std.proofs.lemmas.Bool.{ltb-true, ltb-false, leb-true, leb-false}
+use Rattle.std.proofs.lemmas.Bool.{ltb-false, leb-true, leb-false}
 use Rattle.faults.specs.declared.Reason.{Reason}
 use Rattle.faults.specs.declared.Fault.{Fault}
 use Rattle.faults.specs.Numbers.{fault}
 use Rattle.faults.specs.Outcomes.{check, and_then, map_ok}
-use Rattle.faults.proofs.Passed.{err_ok, err_same, check_ok}
+use Rattle.faults.proofs.Passed.{err_ok, err_same}
 use Rattle.kinds.specs.Kind.{Kind, Lawful, Bytes}
-use Rattle.locks.specs.declared.records.GateMark.{GateMark}
 use Rattle.locks.specs.Circuit.{Gate, ac, mc, ad, mu, mus}
 use Rattle.locks.specs.Limits.{longest_view}
 use Rattle.locks.specs.Lengths.{view_length}
-use Rattle.locks.specs.Reading.{marked, gate_mark, gate_size, wire_and_row, two_wires, gate_body, gate_in, wire_right, wire_and_row_right, two_wires_right, gate_right, counted, in_front, gates_from}
+use Rattle.locks.specs.Reading.{GateMark, gate_mark, gate_size, wire_and_row, two_wires, gate_body, gate_in, wire_right, wire_and_row_right, two_wires_right, gate_right, counted, in_front, gates_from}
 use Rattle.locks.specs.Encoding.{gate_bytes, GateFor, GatesFor}
-use Rattle.locks.specs.Refusing.{letters, record_size, InFront, RowBroken, WiresBroken, FieldsBroken, GateBroken, gate_cut, gate_unmarked, gate_short, gate_field, gate_view}
-use Rattle.locks.proofs.Fields.{bytes_drop, mark_spelled, first_letter, second_letter, gate_marked}
-use Rattle.locks.proofs.Spelled.{gate_stands, right_for, counted_is}
+use Rattle.locks.specs.Refusing.{first_letter, second_letter, letters, record_size, InFront, RowBroken, WiresBroken, FieldsBroken, GateBroken, gate_cut, gate_unmarked, gate_short, gate_field, gate_view}
+use Rattle.locks.proofs.Fields.{bytes_drop, begins_so, gate_marked}
+use Rattle.locks.proofs.Spelled.{gate_stands, wire_below, right_for, counted_is}
 use Rattle.locks.proofs.Written.{gate_long}
 
 -- a refused test
@@ -43,14 +42,7 @@ letters_mark GateMark.Multiply ys = refl
 no_mark : (xs : List ℕ) → gate_mark xs ≡ None → (m : GateMark) → take 2 xs ≡ letters m → ⊥
 no_mark xs e m h =
     let has : gate_mark xs ≡ Some m = ap gate_mark (sym (take-append-drop 2 xs) ∙ ap (λ t. t ++ drop 2 xs) h) ∙ letters_mark m (drop 2 xs) in
-    let z : ◌≡◌ {A = ℕ} 0 1 = cc in
-    omega arith
-
-begins_with : (m : GateMark) (xs : List ℕ) → marked (first_letter m) (second_letter m) xs ≡ true → 2 ≤ length xs → take 2 xs ≡ letters m
-begins_with GateMark.AddConstant xs h k = ap (take 2) (sym (mark_spelled 65 67 xs h k))
-begins_with GateMark.MultiplyConstant xs h k = ap (take 2) (sym (mark_spelled 77 67 xs h k))
-begins_with GateMark.Add xs h k = ap (take 2) (sym (mark_spelled 65 68 xs h k))
-begins_with GateMark.Multiply xs h k = ap (take 2) (sym (mark_spelled 77 85 xs h k))
+    cc
 
 module _ (K : Kind) where
   pub row_short : (at : ℕ) (xs : List ℕ) (f : Fault) → 2 ≤ length xs → wire_and_row K at (drop 2 xs) ≡ Err f → (length xs < 6 + K.width) × (fault Reason.Truncated at ≡ f)
@@ -58,7 +50,7 @@ module _ (K : Kind) where
       ⊎_elim (λ p. (omega (arith, leb-false (4 + K.width) (length (drop 2 xs)) p.0, length-drop 2 xs, two), p.1)) (λ p. err_ok (sym p.1))
       (check_err (leb (4 + K.width) (length (drop 2 xs))) _ _ f h)
 
-  wires_short : (at : ℕ) (xs : List ℕ) (f : Fault) → 2 ≤ length xs → two_wires K at (drop 2 xs) ≡ Err f → (length xs < 10) × (fault Reason.Truncated at ≡ f)
+  wires_short : (at : ℕ) (xs : List ℕ) (f : Fault) → 2 ≤ length xs → two_wires at (drop 2 xs) ≡ Err f → (length xs < 10) × (fault Reason.Truncated at ≡ f)
   wires_short at xs f two h =
       ⊎_elim (λ p. (omega (arith, leb-false 8 (length (drop 2 xs)) p.0, length-drop 2 xs, two), p.1)) (λ p. err_ok (sym p.1))
       (check_err (leb 8 (length (drop 2 xs))) _ _ f h)
@@ -68,8 +60,8 @@ module _ (K : Kind) where
       → (length xs < record_size K m) × (fault Reason.Truncated at ≡ f)
   body_broken GateMark.AddConstant at xs f two h = row_short at xs f two (map_refused _ (wire_and_row K at (drop 2 xs)) f h)
   body_broken GateMark.MultiplyConstant at xs f two h = row_short at xs f two (map_refused _ (wire_and_row K at (drop 2 xs)) f h)
-  body_broken GateMark.Add at xs f two h = wires_short at xs f two (map_refused _ (two_wires K at (drop 2 xs)) f h)
-  body_broken GateMark.Multiply at xs f two h = wires_short at xs f two (map_refused _ (two_wires K at (drop 2 xs)) f h)
+  body_broken GateMark.Add at xs f two h = wires_short at xs f two (map_refused _ (two_wires at (drop 2 xs)) f h)
+  body_broken GateMark.Multiply at xs f two h = wires_short at xs f two (map_refused _ (two_wires at (drop 2 xs)) f h)
 
   record_broken : (k own q at : ℕ) (xs : List ℕ) (f : Fault) → gate_in K at xs ≡ Err f → GateBroken K k own q at xs f
   record_broken k own q at xs f h =
@@ -79,25 +71,22 @@ module _ (K : Kind) where
     where
       go : 2 ≤ length xs → (m : Option GateMark) → gate_mark xs ≡ m → gate_body K at m (drop 2 xs) ≡ Err f → GateBroken K k own q at xs f
       go two None e b = subst (GateBroken K k own q at xs) (err_same b) (gate_unmarked two (no_mark xs e))
-      go two (Some m) e b = let p = body_broken m at xs f two b in subst (GateBroken K k own q at xs) p.1 (gate_short m (begins_with m xs (gate_marked xs m e) two) p.0)
+      go two (Some m) e b = let p = body_broken m at xs f two b in subst (GateBroken K k own q at xs) p.1 (gate_short m (begins_so (first_letter m) (second_letter m) xs (gate_marked xs m e) two) p.0)
 
   wire_broken : (own place a : ℕ) (f : Fault) → wire_right own place a ≡ Err f → (own ≤ a) × (f ≡ fault Reason.WireTooHigh place)
   wire_broken own place a f h =
       ⊎_elim (λ p. (ltb-false a own p.0, sym p.1)) (λ p. err_ok (sym p.1)) (check_err (ltb a own) (fault Reason.WireTooHigh place) (Ok tt) f h)
 
-  wire_fine : (own place a : ℕ) (u : Unit {0}) → wire_right own place a ≡ Ok u → a < own
-  wire_fine own place a u h = ltb-true a own (check_ok (ltb a own) _ _ u h).0
-
   pub row_broken : (own at a : ℕ) (c : List ℕ) (f : Fault) → wire_and_row_right K at own a c ≡ Err f → RowBroken K own at a c f
   row_broken own at a c f h =
       ⊎_elim (λ e. inl (wire_broken own (at + 2) a f e))
-      (λ p. inr (⊎_elim (λ q. (wire_fine own (at + 2) a p.0 p.1, q.0, sym q.1)) (λ q. err_ok (sym q.1)) (check_err (K.lawful c) (fault Reason.UnlawfulConstant (at + 6)) (Ok tt) f p.2)))
+      (λ p. inr (⊎_elim (λ q. (wire_below K own (at + 2) a p.0 p.1, q.0, sym q.1)) (λ q. err_ok (sym q.1)) (check_err (K.lawful c) (fault Reason.UnlawfulConstant (at + 6)) (Ok tt) f p.2)))
       (then_refused (wire_right own (at + 2) a) _ f h)
 
-  wires_broken : (own at a b : ℕ) (f : Fault) → two_wires_right K at own a b ≡ Err f → WiresBroken K own at a b f
+  wires_broken : (own at a b : ℕ) (f : Fault) → two_wires_right at own a b ≡ Err f → WiresBroken K own at a b f
   wires_broken own at a b f h =
       ⊎_elim (λ e. inl (wire_broken own (at + 2) a f e))
-      (λ p. let w = wire_broken own (at + 6) b f p.2 in inr (wire_fine own (at + 2) a p.0 p.1, w.0, w.1))
+      (λ p. let w = wire_broken own (at + 6) b f p.2 in inr (wire_below K own (at + 2) a p.0 p.1, w.0, w.1))
       (then_refused (wire_right own (at + 2) a) _ f h)
 
   fields_broken : (own at : ℕ) (g : Gate (List ℕ)) (f : Fault) → gate_right K at own g ≡ Err f → FieldsBroken K own at g f

@@ -15,7 +15,7 @@ use Rattle.locks.specs.Limits.{most_inputs, most_gates, most_outputs}
 use Rattle.locks.specs.Reading.{marked, gate_size, gate_in, gate_right, counted, output_size, wire_and_row, output_in, output_right, Records, in_front, gates_from, outputs_from, ended, count_within, counts_of, header_of, records_of, lock_of}
 use Rattle.locks.specs.Encoding.{gate_bytes, output_bytes, encoded, OutputFor}
 use Rattle.locks.specs.Refusing.{InFront, GateBroken, OutputBroken, output_cut, output_unmarked, output_short, output_field, header_bytes, Inside, Outside, CountsBroken, HeaderBroken, header_cut, header_unmarked, header_short, header_field, HeaderRight, Refused, in_header, in_gate, in_output, behind, RefusalLaw}
-use Rattle.locks.proofs.Fields.{bytes_drop, mark_spelled}
+use Rattle.locks.proofs.Fields.{bytes_drop, begins_so}
 use Rattle.locks.proofs.Spelled.{output_stands, row_for, gates_stand, outputs_stand, header_stands, counts_spelled, parts_well_formed, parts_spelled, GatesStand, OutputsStand, HeaderStands, gate_stands}
 use Rattle.locks.proofs.Refusals.{check_err, then_refused, map_refused, row_short, row_broken, gates_broken}
 
@@ -26,9 +26,6 @@ marked_by a b ys = and_from (eqb a a) (eqb b b) (eq-eqb a a refl) (eq-eqb b b re
 marked_not : (a b : ℕ) (xs : List ℕ) → marked a b xs ≡ false → take 2 xs ≡ a ∷ b ∷ [] → ⊥
 marked_not a b xs h e =
     false≢true (sym h ∙ ap (marked a b) (sym (take-append-drop 2 xs) ∙ ap (λ t. t ++ drop 2 xs) e) ∙ marked_by a b (drop 2 xs))
-
-begins_so : (a b : ℕ) (xs : List ℕ) → marked a b xs ≡ true → 2 ≤ length xs → take 2 xs ≡ a ∷ b ∷ []
-begins_so a b xs h k = ap (take 2) (sym (mark_spelled a b xs h k))
 
 module _ (K : Kind) where
   output_record_broken : (wires at : ℕ) (xs : List ℕ) (f : Fault) → output_in K at xs ≡ Err f → OutputBroken K wires at xs f
@@ -96,7 +93,7 @@ outside low high n h = go (leb low n) (leb n high) refl refl h
     go : (p q : Bool) → leb low n ≡ p → leb n high ≡ q → (p && q) ≡ false → Outside low high n
     go false q ep eq h = inl (leb-false low n ep)
     go true false ep eq h = inr (leb-false n high eq)
-    go true true ep eq h = absurd (false≢true (sym h))
+    go true true ep eq h = cc
 
 inside : (low high n : ℕ) → (leb low n && leb n high) ≡ true → Inside low high n
 inside low high n h = let p = and_parts (leb low n) (leb n high) h in (leb-true low n p.0, leb-true n high p.1)

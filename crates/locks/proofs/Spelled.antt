@@ -7,14 +7,14 @@ use Rattle.faults.specs.Outcomes.{and_then, map_ok}
 use Rattle.faults.proofs.Passed.{err_ok, ok_same, check_ok, then_ok, map_ok_was}
 use Rattle.kinds.specs.Kind.{Kind, Lawful, Bytes}
 use Rattle.kinds.specs.Numbers.{number_of, four_bytes}
-use Rattle.locks.specs.declared.records.GateMark.{GateMark}
 use Rattle.locks.specs.declared.records.Counts.{Counts}
 use Rattle.locks.specs.Circuit.{Gate, ac, mc, ad, mu, Output, Circuit, mus}
 use Rattle.locks.specs.Limits.{most_inputs, most_gates, most_outputs, longest_view}
 use Rattle.locks.specs.Lengths.{view_length}
-use Rattle.locks.specs.Reading.{marked, gate_mark, gate_size, output_size, wire_and_row, two_wires, gate_body, gate_in, output_in, wire_right, wire_and_row_right, two_wires_right, gate_right, output_right, counted, Records, in_front, gates_from, outputs_from, gates_in, outputs_in, ended, header_of, records_of, lock_of}
+use Rattle.locks.specs.Reading.{GateMark, marked, gate_mark, gate_size, output_size, wire_and_row, two_wires, gate_body, gate_in, output_in, wire_right, wire_and_row_right, two_wires_right, gate_right, output_right, counted, Records, in_front, gates_from, outputs_from, gates_in, outputs_in, ended, header_of, records_of, lock_of}
 use Rattle.locks.specs.Encoding.{gate_bytes, output_bytes, encoded, GateFor, GatesFor, OutputFor, WellFormed}
-use Rattle.locks.proofs.Fields.{number_spelled, bytes_drop, cut, mark_spelled, first_letter, second_letter, gate_marked, view_starts}
+use Rattle.locks.specs.Refusing.{first_letter, second_letter}
+use Rattle.locks.proofs.Fields.{number_spelled, bytes_drop, cut, mark_spelled, gate_marked, view_starts}
 
 module _ (K : Kind) where
   -- a record of the gate g stands at the front of xs
@@ -70,9 +70,9 @@ module _ (K : Kind) where
   with_wires : (make : ℕ → ℕ → Gate (List ℕ)) (a b : ℕ)
       → ((v w : ℕ) → gate_bytes (make v w) ≡ a ∷ b ∷ four_bytes v ++ four_bytes w) → ((v w : ℕ) → gate_size K (make v w) ≡ 10)
       → (at : ℕ) (xs : List ℕ) (g : Gate (List ℕ)) → marked a b xs ≡ true → 2 ≤ length xs
-      → map_ok (λ p. make p.0 p.1) (two_wires K at (drop 2 xs)) ≡ Ok g → GateStands xs g
+      → map_ok (λ p. make p.0 p.1) (two_wires at (drop 2 xs)) ≡ Ok g → GateStands xs g
   with_wires make a b bytes size at xs g m two h =
-      let p = map_ok_was _ (two_wires K at (drop 2 xs)) g h in
+      let p = map_ok_was _ (two_wires at (drop 2 xs)) g h in
       let q = check_ok _ _ _ _ p.1 in
       let is = ok_same q.1 in
       let v = number_of (drop 2 xs) in
@@ -98,13 +98,13 @@ module _ (K : Kind) where
       go two None e k = err_ok k
       go two (Some m) e k = body_stands m at xs g (gate_marked xs m e) two k
 
-  wire_below : (own place a : ℕ) (u : Unit {0}) → wire_right own place a ≡ Ok u → a < own
+  pub wire_below : (own place a : ℕ) (u : Unit {0}) → wire_right own place a ≡ Ok u → a < own
   wire_below own place a u h = ltb-true a own (check_ok _ _ _ _ h).0
 
   pub row_for : (at own a : ℕ) (c : List ℕ) (u : Unit {0}) → wire_and_row_right K at own a c ≡ Ok u → (a < own) × Lawful K c
   row_for at own a c u h = let p = then_ok (wire_right own (at + 2) a) _ u h in (wire_below own (at + 2) a p.0 p.1, (check_ok _ _ _ _ p.2).0)
 
-  wires_for : (at own a b : ℕ) (u : Unit {0}) → two_wires_right K at own a b ≡ Ok u → (a < own) × (b < own)
+  wires_for : (at own a b : ℕ) (u : Unit {0}) → two_wires_right at own a b ≡ Ok u → (a < own) × (b < own)
   wires_for at own a b u h = let p = then_ok (wire_right own (at + 2) a) _ u h in (wire_below own (at + 2) a p.0 p.1, wire_below own (at + 6) b u p.2)
 
   pub right_for : (at own : ℕ) (g : Gate (List ℕ)) (u : Unit {0}) → gate_right K at own g ≡ Ok u → GateFor K own g

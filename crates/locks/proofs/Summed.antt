@@ -1,27 +1,21 @@
 -- A lock is read as its header and its records are.
-use Rattle.std.proofs.Common.{◌≡◌, ℕ, ◌+◌, ◌<◌, ◌≤◌, List, [], ◌∷◌, length, get_or, drop, Ok, Err, Result, sym, refl, ap, ◌∙◌, subst, arith, w8, Fits}
+use Rattle.std.proofs.Common.{◌≡◌, ℕ, ◌+◌, ◌<◌, List, length, get_or, drop, Ok, Err, Result, sym, refl, ap, ◌∙◌, subst, arith, w8, Fits}
 use Rattle.std.proofs.ByRecursion.{All-from_get_or}
 use Rattle.faults.specs.declared.Fault.{Fault}
 use Rattle.faults.specs.Outcomes.{and_then, map_ok}
-use Rattle.faults.proofs.Passed.{err_ok, err_same, map_ok_was}
+use Rattle.faults.proofs.Passed.{map_ok_was}
 use Rattle.kinds.specs.Kind.{Kind, Bytes}
 use Rattle.locks.specs.declared.records.Counts.{Counts}
-use Rattle.locks.specs.Circuit.{Gate, ac, mc, ad, mu, Circuit, mus}
+use Rattle.locks.specs.Circuit.{Circuit, mus}
 use Rattle.locks.specs.Reading.{header_of, records_of, lock_of, gates_in, outputs_in}
 use Rattle.locks.specs.Model.{behind_header}
 use Rattle.locks.specs.Locks.{summary, Walks, Walkable}
+use Rattle.locks.proofs.Refusals.{map_refused}
 use Rattle.locks.proofs.Spelled.{lock_stands, gates_stand, outputs_stand}
 
 -- what a slice of bytes holds are bytes
 pub in_bytes : (xs : List ℕ) → ((i : ℕ) → Fits w8 (get_or xs i 0)) → Bytes xs
 in_bytes xs h = All-from_get_or (λ b. b < 256) xs 0 (λ i _. let f = h i in omega arith)
-
-mus_few : (gs : List (Gate (List ℕ))) → mus gs ≤ length gs
-mus_few [] = omega arith
-mus_few (ac a c ∷ gs) = let h = mus_few gs in omega arith
-mus_few (mc a c ∷ gs) = let h = mus_few gs in omega arith
-mus_few (ad a b ∷ gs) = let h = mus_few gs in omega arith
-mus_few (mu a b ∷ gs) = let h = mus_few gs in omega arith
 
 pub walk_refused : (K : Kind) (bs : List ℕ) (r : Result (List ℕ) Fault) (t : Result (Circuit (List ℕ)) Fault) (f : Fault) → r ≡ Err f → t ≡ Err f → Walkable K bs r t
 walk_refused K bs r t f e d = subst (λ x. Walkable K bs x t) (sym e) (subst (λ y. Walkable K bs (Err f) y) (sym d) tt)
@@ -36,19 +30,14 @@ module _ (K : Kind) (bs : List ℕ) where
   behind_counts : (n : Counts) → header_of K bs ≡ Ok n → lock_of K bs ≡ records_of K n 15 (drop 15 bs)
   behind_counts n e = ap (λ r. and_then r (λ n. records_of K n 15 (drop 15 bs))) e
 
-  map_err : (r : Result (Circuit (List ℕ)) Fault) (f : Fault) → map_ok (λ l. mus l.gates) r ≡ Err f → r ≡ Err f
-  map_err (Ok l) f e = err_ok (sym e)
-  map_err (Err d) f e = ap Err (err_same e)
-
   pub records_refused : (n : Counts) (f : Fault) → header_of K bs ≡ Ok n → map_ok (λ l. mus l.gates) (records_of K n 15 (drop 15 bs)) ≡ Err f → lock_of K bs ≡ Err f
-  records_refused n f e h = behind_counts n e ∙ map_err (records_of K n 15 (drop 15 bs)) f h
+  records_refused n f e h = behind_counts n e ∙ map_refused (λ l. mus l.gates) (records_of K n 15 (drop 15 bs)) f h
 
   pub record Accepted (n : Counts) (q : ℕ) : Type 0 where
     pub circuit : Circuit (List ℕ)
     pub read : lock_of K bs ≡ Ok circuit
     pub sums : record { inputs = n.inputs; gates = n.gates; outputs = n.outputs; products = q } ≡ summary circuit
     pub walks : Walks K (behind_header (drop 15 bs)) circuit
-    pub few : q ≤ n.gates
 
   pub accepted : (n : Counts) (q : ℕ) → header_of K bs ≡ Ok n → map_ok (λ l. mus l.gates) (records_of K n 15 (drop 15 bs)) ≡ Ok q → Accepted n q
   accepted n q e h =
@@ -75,7 +64,6 @@ module _ (K : Kind) (bs : List ℕ) where
           refl,
           ap length s.none_left,
         );
-        few = let b = mus_few l.gates in omega (arith, m.2, gates, mus_few l.gates);
       }
     where
       same_counts : {a b : Counts} → ◌≡◌ {A = Result Counts Fault} (Ok a) (Ok b) → a ≡ b

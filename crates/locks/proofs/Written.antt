@@ -64,7 +64,7 @@ module _ (K : Kind) (sized : (x : List ℕ) → Lawful K x → length x ≡ K.wi
   row_right : (own at a : ℕ) (c : List ℕ) → (a < own) × Lawful K c → wire_and_row_right K at own a c ≡ Ok tt
   row_right own at a c f = λ i. and_then (check (lt-ltb a own f.0 i) (fault Reason.WireTooHigh (at + 2)) (Ok tt)) (λ _. check (f.1 i) (fault Reason.UnlawfulConstant (at + 6)) (Ok tt))
 
-  wires_right : (own at a b : ℕ) → (a < own) × (b < own) → two_wires_right K at own a b ≡ Ok tt
+  wires_right : (own at a b : ℕ) → (a < own) × (b < own) → two_wires_right at own a b ≡ Ok tt
   wires_right own at a b f = λ i. and_then (check (lt-ltb a own f.0 i) (fault Reason.WireTooHigh (at + 2)) (Ok tt)) (λ _. check (lt-ltb b own f.1 i) (fault Reason.WireTooHigh (at + 6)) (Ok tt))
 
   gate_fields : (g : Gate (List ℕ)) (own at : ℕ) → GateFor K own g → gate_right K at own g ≡ Ok tt

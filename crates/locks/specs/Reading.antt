@@ -7,7 +7,6 @@ use Rattle.faults.specs.Numbers.{fault}
 use Rattle.faults.specs.Outcomes.{check, and_then, map_ok}
 use Rattle.kinds.specs.Kind.{Kind}
 use Rattle.kinds.specs.Numbers.{number_of}
-use Rattle.locks.specs.declared.records.GateMark.{GateMark}
 use Rattle.locks.specs.declared.records.Counts.{Counts}
 use Rattle.locks.specs.Circuit.{Gate, ac, mc, ad, mu, Output, Circuit}
 use Rattle.locks.specs.Limits.{most_inputs, most_gates, most_outputs, longest_view}
@@ -16,6 +15,9 @@ use Rattle.locks.specs.Lengths.{view_length}
 -- the two letters of a mark
 abbrev pub marked : ℕ → ℕ → List ℕ → Bool
 marked a b xs = slice_index xs 0 == a && slice_index xs 1 == b
+
+pub data GateMark : Type 0 where
+  AddConstant MultiplyConstant Add Multiply : GateMark
 
 -- a gate's mark: AC, MC, AD or MU
 abbrev pub gate_mark : List ℕ → Option GateMark
@@ -40,20 +42,23 @@ abbrev pub wire_right : (own place a : ℕ) → Result (Unit {0}) Fault
 wire_right own place a = check (nat_lt a own) (fault Reason.WireTooHigh place) (Ok tt)
 
 -- In what follows `xs` are the bytes from a record's start on, which is at the offset `at`, and `fs` those behind its mark.
+abbrev pub two_wires : (at : ℕ) (fs : List ℕ) → Result (ℕ × ℕ) Fault
+two_wires at fs = check (nat_le 8 (length fs)) (fault Reason.Truncated at) (Ok (number_of fs, number_of (drop 4 fs)))
+
+abbrev pub two_wires_right : (at own a b : ℕ) → Result (Unit {0}) Fault
+two_wires_right at own a b = and_then (wire_right own (at + 2) a) (λ _. wire_right own (at + 6) b)
+
 module _ (K : Kind) (at : ℕ) where
   abbrev pub wire_and_row : (fs : List ℕ) → Result (ℕ × List ℕ) Fault
   wire_and_row fs =
       check (nat_le (4 + K.width) (length fs)) (fault Reason.Truncated at) (Ok (number_of fs, take K.width (drop 4 fs)))
 
-  abbrev pub two_wires : (fs : List ℕ) → Result (ℕ × ℕ) Fault
-  two_wires fs = check (nat_le 8 (length fs)) (fault Reason.Truncated at) (Ok (number_of fs, number_of (drop 4 fs)))
-
   abbrev pub gate_body : Option GateMark → (fs : List ℕ) → Result (Gate (List ℕ)) Fault
   gate_body None fs = Err (fault Reason.WrongMark at)
   gate_body (Some GateMark.AddConstant) fs = map_ok (λ p. ac p.0 p.1) (wire_and_row fs)
   gate_body (Some GateMark.MultiplyConstant) fs = map_ok (λ p. mc p.0 p.1) (wire_and_row fs)
-  gate_body (Some GateMark.Add) fs = map_ok (λ p. ad p.0 p.1) (two_wires fs)
-  gate_body (Some GateMark.Multiply) fs = map_ok (λ p. mu p.0 p.1) (two_wires fs)
+  gate_body (Some GateMark.Add) fs = map_ok (λ p. ad p.0 p.1) (two_wires at fs)
+  gate_body (Some GateMark.Multiply) fs = map_ok (λ p. mu p.0 p.1) (two_wires at fs)
 
   -- the gate record, its fields untested
   abbrev pub gate_in : (xs : List ℕ) → Result (Gate (List ℕ)) Fault
@@ -71,15 +76,12 @@ module _ (K : Kind) (at : ℕ) where
   wire_and_row_right own a c =
       and_then (wire_right own (at + 2) a) (λ _. check (K.lawful c) (fault Reason.UnlawfulConstant (at + 6)) (Ok tt))
 
-  abbrev pub two_wires_right : (own a b : ℕ) → Result (Unit {0}) Fault
-  two_wires_right own a b = and_then (wire_right own (at + 2) a) (λ _. wire_right own (at + 6) b)
-
   -- the fields of a gate that writes wire `own`
   abbrev pub gate_right : (own : ℕ) → Gate (List ℕ) → Result (Unit {0}) Fault
   gate_right own (ac a c) = wire_and_row_right own a c
   gate_right own (mc a c) = wire_and_row_right own a c
-  gate_right own (ad a b) = two_wires_right own a b
-  gate_right own (mu a b) = two_wires_right own a b
+  gate_right own (ad a b) = two_wires_right at own a b
+  gate_right own (mu a b) = two_wires_right at own a b
 
   -- the fields of an output of a lock with so many wires
   abbrev pub output_right : (wires : ℕ) → Output (List ℕ) → Result (Unit {0}) Fault

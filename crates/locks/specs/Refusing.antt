@@ -6,20 +6,28 @@ use Rattle.faults.specs.declared.Fault.{Fault}
 use Rattle.faults.specs.Numbers.{fault}
 use Rattle.kinds.specs.Kind.{Kind, Laws, Bytes}
 use Rattle.kinds.specs.Numbers.{four_bytes}
-use Rattle.locks.specs.declared.records.GateMark.{GateMark}
 use Rattle.locks.specs.declared.records.Counts.{Counts}
 use Rattle.locks.specs.Circuit.{Gate, ac, mc, ad, mu, Output, Circuit, mus}
 use Rattle.locks.specs.Limits.{most_inputs, most_gates, most_outputs, longest_view}
 use Rattle.locks.specs.Lengths.{view_length}
-use Rattle.locks.specs.Reading.{lock_of}
+use Rattle.locks.specs.Reading.{GateMark, lock_of}
 use Rattle.locks.specs.Encoding.{gate_bytes, output_bytes, encoded, GateFor, GatesFor, OutputFor, WellFormed}
 
 -- the letters of a gate's mark, and the size of its record
+abbrev pub first_letter : GateMark → ℕ
+first_letter GateMark.AddConstant = 65
+first_letter GateMark.MultiplyConstant = 77
+first_letter GateMark.Add = 65
+first_letter GateMark.Multiply = 77
+
+abbrev pub second_letter : GateMark → ℕ
+second_letter GateMark.AddConstant = 67
+second_letter GateMark.MultiplyConstant = 67
+second_letter GateMark.Add = 68
+second_letter GateMark.Multiply = 85
+
 abbrev pub letters : GateMark → List ℕ
-letters GateMark.AddConstant = 65 ∷ 67 ∷ []
-letters GateMark.MultiplyConstant = 77 ∷ 67 ∷ []
-letters GateMark.Add = 65 ∷ 68 ∷ []
-letters GateMark.Multiply = 77 ∷ 85 ∷ []
+letters m = first_letter m ∷ second_letter m ∷ []
 
 abbrev pub record_size : Kind → GateMark → ℕ
 record_size K GateMark.AddConstant = 6 + K.width

@@ -1,19 +1,23 @@
 // The header of a lock: its mark, the kind's number, and the counts.
-ghost use Rattle.std.specs.Prelude.{◌≡◌, ◌≤◌, length};
+ghost use Rattle.std.specs.Prelude.{◌≡◌, ◌+◌, ◌≤◌, length, drop};
+ghost use Rattle.kinds.specs.Numbers.{number_of};
 ghost use Rattle.locks.specs.Reading.{count_within, counts_of, header_of};
 
 use crate::limits::{MOST_GATES, MOST_INPUTS, MOST_OUTPUTS};
-use crate::reader::fields::{is_mark, read_number};
+use crate::reader::fields::read_number;
 use crate::records::Counts;
 use faults::{Fault, Reason};
 use kinds::kind::ElementKind;
 
 pub(crate) const HEADER_LENGTH: usize = 15;
 
-fn count_within(low: usize, high: usize, at: usize, count: usize) -> Result<usize, Fault>
-    ensures { result ≡ count_within low high at count }
+// The count in the four bytes from `at` on, if it lies within its limits.
+fn count_at(bytes: &[u8], at: usize, low: usize, high: usize) -> Result<usize, Fault>
+    requires { at + 4 ≤ length bytes.now }
+    ensures { result ≡ count_within low high at (number_of (drop at bytes.now)) }
 {
-    if low <= count && count <= high {
+    let count = read_number(bytes, at);
+    if (low..=high).contains(&count) {
         Ok(count)
     } else {
         Err(Fault::at(Reason::OutsideLimits, at))
@@ -24,29 +28,25 @@ fn counts(bytes: &[u8]) -> Result<Counts, Fault>
     requires { 15 ≤ length bytes.now }
     ensures { result ≡ counts_of bytes.now }
 {
-    let inputs = count_within(1, MOST_INPUTS, 3, read_number(bytes, 3))?;
-    let gates = count_within(0, MOST_GATES, 7, read_number(bytes, 7))?;
-    let outputs = count_within(1, MOST_OUTPUTS, 11, read_number(bytes, 11))?;
     Ok(Counts {
-        inputs,
-        gates,
-        outputs,
+        inputs: count_at(bytes, 3, 1, MOST_INPUTS)?,
+        gates: count_at(bytes, 7, 0, MOST_GATES)?,
+        outputs: count_at(bytes, 11, 1, MOST_OUTPUTS)?,
     })
 }
 
 pub(crate) fn header<K: ElementKind>(bytes: &[u8]) -> Result<Counts, Fault>
     ensures { result ≡ header_of K.kind bytes.now }
 {
-    let [first, second, ..] = bytes else {
-        return Err(Fault::at(Reason::Truncated, 0));
-    };
-    if !is_mark(*first, *second, b"LK") {
-        return Err(Fault::at(Reason::WrongMark, 0));
+    match bytes {
+        [b'L', b'K', ..] => {}
+        [_, _, ..] => return Err(Fault::at(Reason::WrongMark, 0)),
+        _ => return Err(Fault::at(Reason::Truncated, 0)),
     }
     if bytes.len() < HEADER_LENGTH {
         return Err(Fault::at(Reason::Truncated, 0));
     }
-    if bytes[2] != K::kind_number() {
+    if bytes[2] != K::NUMBER {
         return Err(Fault::at(Reason::OutsideLimits, 2));
     }
     counts(bytes)

@@ -5,22 +5,13 @@ ghost use Rattle.locks.specs.Lengths.{view_length};
 
 use kinds::kind::ElementKind;
 
-// The bytes of n plain rows.
-pub(crate) fn rows_length<K: ElementKind>(n: usize) -> usize
-    requires { n ≤ 8589934592 }
-    ensures value { result ≡ n * K.kind.width }
-    ensures bound { result ≤ n * 16 }
-{
-    n * K::row_length()
-}
-
 // The bytes of a group of n elements.
 pub(crate) fn group_length<K: ElementKind>(n: usize) -> usize
-    requires { n ≤ 4294967296 }
+    requires { n ≤ 8589934592 }
     ensures value { result ≡ group_length K.kind n }
     ensures bound { result ≤ n * 16 }
 {
-    rows_length::<K>(n)
+    n * K::WIDTH
 }
 
 // The bytes of a view with so many inputs and products.

@@ -12,9 +12,7 @@ pub mod reader;
 pub mod records;
 
 // The laws of reading, for every kind that keeps its laws: what is accepted, and what a fault tells.
-pub fn reading_stands() -> u8
+pub fn reading_stands()
     ensures accepted { ReadingLaw }
     ensures refused { RefusalLaw }
-{
-    0
-}
+{}

@@ -1,13 +1,5 @@
 // The records of a lock, as they lie in its bytes.
 
-#[derive(Clone, Copy)]
-pub enum GateMark {
-    AddConstant,
-    MultiplyConstant,
-    Add,
-    Multiply,
-}
-
 // A gate record: wire numbers, and the constant as a part of the lock's bytes.
 #[derive(Clone, Copy)]
 pub enum GateRecord<'a> {

@@ -1,3 +1,3 @@
 pub mod Written
-pub mod Filled
 pub mod Chained
+pub mod Made

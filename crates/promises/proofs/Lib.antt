@@ -1,8 +1,4 @@
-pub mod Segments
-pub mod Puts
-pub mod Trios
-pub mod Walks
+pub mod Reading
 pub mod Fills
-pub mod Writes
-pub mod Thirds
-pub mod Told
+pub mod Runs
+pub mod Rounds

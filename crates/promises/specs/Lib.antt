@@ -1,6 +1,2 @@
-pub mod Parts
-pub mod Three
-pub mod Tapes
-pub mod Fronts
-pub mod First
-pub mod Rounds
+pub mod Drawn
+pub mod Running

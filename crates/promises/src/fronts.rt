@@ -1,72 +1,47 @@
-// What stands before the products in each view: blind, shares, masks.
-ghost use Rattle.std.specs.Prelude.{◌≡◌, ◌+◌, ◌≤◌, List, ◌++◌, length};
+// What stands before the products in a view: blind, shares, masks.
+ghost use Rattle.std.specs.Prelude.{◌≡◌, ◌+◌, ◌++◌, length};
 ghost use Rattle.std.specs.List.{AllByRecursion};
+ghost use Rattle.faults.specs.declared.Branch.TheVariants.{Three as three};
 ghost use Rattle.kinds.specs.Kind.{Lawful};
-ghost use Rattle.kinds.specs.Groups.{group_length};
-ghost use Rattle.theory.specs.declared.Branch.{Branch as Name};
-ghost use Rattle.theory.specs.Groups.{group, group_bytes};
-ghost use Rattle.promises.specs.Parts.{front_in};
-ghost use Rattle.promises.specs.Three.{Shaped};
-ghost use Rattle.promises.specs.Tapes.{Sized};
-ghost use Rattle.promises.specs.Fronts.{third_of, fronts_of};
+ghost use Rattle.theory.specs.Algebra.{ops_of};
+ghost use Rattle.theory.specs.Branches.{shares_of};
+ghost use Rattle.theory.specs.Groups.{group_bytes};
+ghost use Rattle.theory.specs.Messages.{products_at};
+ghost use Rattle.promises.specs.Drawn.{Fitting};
 
-use crate::shape::{Shape, copy_at};
 use crate::shares::third_shares;
 use crate::tape::Tape;
+use branches::group::Group;
+use branches::lock::OpenLock;
 use kinds::kind::ElementKind;
 
-fn fill_front(front: &mut [u8], blind: &[u8], shares: &[u8], masks: &[u8])
+// Writes them over the whole of `front`.
+pub(crate) fn write_front(front: &mut [u8], blind: &[u8], shares: &[u8], masks: &[u8])
     requires { length front.old ≡ length blind.now + (length shares.now + length masks.now) }
     ensures { front.new ≡ blind.now ++ (shares.now ++ masks.now) }
 {
-    copy_at(front, 0, blind);
-    copy_at(front, blind.len(), shares);
-    copy_at(front, blind.len() + shares.len(), masks);
+    let (blind_place, rest) = front.split_at_mut(blind.len());
+    let (shares_place, masks_place) = rest.split_at_mut(shares.len());
+    blind_place.copy_from_slice(blind);
+    shares_place.copy_from_slice(shares);
+    masks_place.copy_from_slice(masks);
 }
 
 // The third view's, whose shares are computed.
-fn fill_third<K: ElementKind>(front: &mut [u8], tape: Tape<'_>, key: &[u8], count: usize)
-    requires sized { length front.old ≡ length tape.blind3.now + (group_length K.kind count + length tape.mask3.now) }
-    requires key { length key.now ≡ group_length K.kind count }
-    requires shares { (length tape.share1.now ≡ group_length K.kind count) × (length tape.share2.now ≡ group_length K.kind count) }
-    requires lawful { AllByRecursion (Lawful K.kind) (group K.kind count key.now) }
-    requires lawful1 { AllByRecursion (Lawful K.kind) (group K.kind count tape.share1.now) }
-    requires lawful2 { AllByRecursion (Lawful K.kind) (group K.kind count tape.share2.now) }
-    ensures { front.new ≡ tape.entry.blind3.now ++ (group_bytes K.kind (third_of K.kind count key.now tape.entry) ++ tape.entry.mask3.now) }
-{
-    let from = tape.blind3.len();
-    let to = from + tape.share1.len();
-    copy_at(front, 0, tape.blind3);
-    third_shares::<K>(key, tape.share1, tape.share2, count, &mut front[from..to]);
-    copy_at(front, to, tape.mask3);
-}
-
-// The fronts of a round's three views.
-pub fn write_fronts<K: ElementKind>(
-    tape: Tape<'_>,
-    key: &[u8],
-    count: usize,
-    shape: Shape,
-    part: &mut [u8],
+pub(crate) fn write_third_front<K: ElementKind>(
+    lock: &OpenLock<'_, K>,
+    key: &Group<'_, K>,
+    tape: &Tape<'_, K>,
+    front: &mut [u8],
 )
-    requires shaped { Shaped K.kind shape (length part.old) }
-    requires front { shape.products_at ≡ 32 + (group_length K.kind count + group_length K.kind shape.products) }
-    requires sized { Sized K.kind count shape.products tape }
-    requires key { length key.now ≡ group_length K.kind count }
-    requires lawful { AllByRecursion (Lawful K.kind) (group K.kind count key.now) }
-    requires lawful1 { AllByRecursion (Lawful K.kind) (group K.kind count tape.share1.now) }
-    requires lawful2 { AllByRecursion (Lawful K.kind) (group K.kind count tape.share2.now) }
-    ensures { (i : Name) → front_in shape.view_length shape.products_at part.new i ≡ fronts_of K.kind count key.now tape.entry i }
+    requires fitting { Fitting lock.now key.now tape.now }
+    requires sized { length front.old ≡ products_at K.kind lock.now }
+    ensures front { front.new ≡ tape.now.blind3 ++ (group_bytes K.kind (shares_of (ops_of K.kind) key.now tape.now.parts three) ++ group_bytes K.kind tape.now.parts.mask3) }
+    ensures lawful { AllByRecursion (Lawful K.kind) (shares_of (ops_of K.kind) key.now tape.now.parts three) }
 {
-    let size = shape.products_at;
-    let second = shape.view_length;
-    let third = 2 * shape.view_length;
-    fill_front(&mut part[..size], tape.blind1, tape.share1, tape.mask1);
-    fill_front(
-        &mut part[second..second + size],
-        tape.blind2,
-        tape.share2,
-        tape.mask2,
-    );
-    fill_third::<K>(&mut part[third..third + size], tape, key, count);
+    let (blind_place, rest) = front.split_at_mut(tape.blind3.len());
+    let (shares_place, masks_place) = rest.split_at_mut(lock.key_length());
+    blind_place.copy_from_slice(tape.blind3);
+    third_shares(key, &tape.share1, &tape.share2, shares_place);
+    masks_place.copy_from_slice(tape.mask3.bytes());
 }

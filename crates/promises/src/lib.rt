@@ -3,11 +3,9 @@
 
 mod first;
 mod fronts;
-mod gate;
 pub mod key;
 mod outputs;
 pub mod round;
 mod run;
-pub mod shape;
 mod shares;
 pub mod tape;

@@ -1,34 +1,27 @@
 // The output shares of a branch.
-ghost use Rattle.std.specs.Prelude.{◌≡◌, ◌+◌, ◌*◌, ◌≤◌, length};
-ghost use Rattle.std.specs.List.{AllByRecursion};
-ghost use Rattle.kinds.specs.Kind.{Lawful};
+ghost use Rattle.std.specs.Prelude.{◌≡◌, ◌+◌, length};
 ghost use Rattle.kinds.specs.Groups.{group_length};
 ghost use Rattle.theory.specs.Algebra.{ops_of};
 ghost use Rattle.theory.specs.Runs.{at_outputs};
 ghost use Rattle.theory.specs.Groups.{group_bytes};
-ghost use Rattle.branches.specs.Walks.{Stands, circuit_of};
-ghost use Rattle.branches.specs.Wires.{wires_in};
 
 use branches::groups::put_element;
-use branches::walk::{next_output, outputs_reader};
-use branches::wires::wire;
+use branches::lock::OpenLock;
+use branches::wires::Wires;
 use kinds::kind::ElementKind;
-use locks::lock::Lock;
 
 // Writes them over the whole of `out`.
-pub fn write_outputs<K: ElementKind>(lock: Lock<'_>, work: &[u8], out: &mut [u8])
-    requires stands { Stands K.kind lock }
-    requires within { (lock.inputs + lock.gates) * K.kind.width ≤ length work.now }
-    requires lawful { AllByRecursion (Lawful K.kind) (wires_in K.kind (lock.inputs + lock.gates) work.now) }
-    requires sized { length out.old ≡ group_length K.kind lock.outputs }
-    ensures { out.new ≡ group_bytes K.kind (at_outputs (ops_of K.kind) (circuit_of K.kind lock.entry).outputs (wires_in K.kind (lock.entry.inputs + lock.entry.gates) work.now)) }
+pub(crate) fn write_outputs<K: ElementKind>(
+    lock: &OpenLock<'_, K>,
+    wires: &Wires<'_, K>,
+    out: &mut [u8],
+)
+    requires ends { length wires.now.rows ≡ lock.now.inputs + length lock.now.gates }
+    requires sized { length out.old ≡ group_length K.kind (length lock.now.outputs) }
+    ensures { out.new ≡ group_bytes K.kind (at_outputs (ops_of K.kind) lock.now.outputs wires.now.rows) }
 {
-    let wires = lock.inputs as usize + lock.gates as usize;
-    let outputs = lock.outputs as usize;
-    let mut reader = outputs_reader::<K>(lock);
-    for j in 0..outputs {
-        let output = next_output::<K>(&mut reader);
-        let share: K = wire(work, wires, output.wire);
-        put_element(out, outputs, j, share);
+    let count = lock.output_count();
+    for (j, output) in lock.outputs().enumerate() {
+        put_element(out, count, j, wires.wire(output.wire));
     }
 }

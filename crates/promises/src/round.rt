@@ -1,125 +1,81 @@
 // A whole round: its views in their part of the store, and its first message.
 ghost use Rattle.std.specs.Prelude.{◌≡◌, ◌+◌, ◌*◌, ◌≤◌, ◌++◌, length};
-ghost use Rattle.std.specs.List.{AllByRecursion};
-ghost use Rattle.kinds.specs.Kind.{Lawful};
-ghost use Rattle.kinds.specs.Groups.{group_length};
-ghost use Rattle.locks.specs.Lengths.{first_length};
-ghost use Rattle.theory.specs.declared.Branch.{Branch as Name};
-ghost use Rattle.theory.specs.declared.Branch.TheVariants.{One as one, Two as two, Three as three};
-ghost use Rattle.theory.specs.Groups.{group};
-ghost use Rattle.theory.specs.Messages.{first_bytes};
-ghost use Rattle.branches.specs.Walks.{circuit_of};
-ghost use Rattle.branches.specs.Wires.{wires_in};
-ghost use Rattle.promises.specs.Parts.{front_in, products_in};
-ghost use Rattle.promises.specs.Three.{Shaped, wires_on};
-ghost use Rattle.promises.specs.Fronts.{third_of};
-ghost use Rattle.promises.specs.First.{Ready, view_part};
-ghost use Rattle.promises.specs.Rounds.{Accepted, shares_on, round_views, round_outs, round_view, round_wires};
+ghost use Rattle.faults.specs.declared.Branch.{Branch as Name};
+ghost use Rattle.faults.specs.declared.Branch.TheVariants.{One as one, Two as two, Three as three};
+ghost use Rattle.theory.specs.Messages.{length_of_view, length_of_work, length_of_first, outs_length};
+ghost use Rattle.promises.specs.Drawn.{Fitting, view_on, views_on, outs_on, first_on};
 
-use crate::first::write_first;
-use crate::fronts::write_fronts;
-use crate::run::run_three;
-use crate::shape::{Masks, Shape};
+use crate::first::write_seals;
+use crate::fronts::{write_front, write_third_front};
+use crate::run::Trio;
 use crate::tape::Tape;
-use branches::groups::wires_from_group;
+use branches::group::Group;
+use branches::groups::group_length;
+use branches::lock::OpenLock;
+use branches::views::BLIND_LENGTH;
 use kinds::kind::ElementKind;
-use locks::lock::Lock;
 use seals::Sealer;
 
-// The shares of the three branches as the first wires of their work spaces; those of branch 3 stand in its view.
-fn start_wires<K: ElementKind>(
-    tape: Tape<'_>,
-    third: &[u8],
-    count: usize,
-    work1: &mut [u8],
-    work2: &mut [u8],
-    work3: &mut [u8],
-)
-    requires sized { (group_length K.kind count ≤ length tape.share1.now) × ((group_length K.kind count ≤ length tape.share2.now) × (group_length K.kind count ≤ length third.now)) }
-    requires room { (count * K.kind.width ≤ length work1.old) × ((count * K.kind.width ≤ length work2.old) × (count * K.kind.width ≤ length work3.old)) }
-    requires lawful1 { AllByRecursion (Lawful K.kind) (group K.kind count tape.share1.now) }
-    requires lawful2 { AllByRecursion (Lawful K.kind) (group K.kind count tape.share2.now) }
-    requires lawful3 { AllByRecursion (Lawful K.kind) (group K.kind count third.now) }
-    ensures first { wires_in K.kind count work1.new ≡ group K.kind count tape.entry.share1.now }
-    ensures second { wires_in K.kind count work2.new ≡ group K.kind count tape.entry.share2.now }
-    ensures third { wires_in K.kind count work3.new ≡ group K.kind count third.now }
-{
-    wires_from_group::<K>(tape.share1, count, work1);
-    wires_from_group::<K>(tape.share2, count, work2);
-    wires_from_group::<K>(third, count, work3);
-}
-
-// The views of a round, by a run of the three branches that leaves all wires in the work spaces.
+// The views of a round, and the output shares of its branches.
 fn write_views<K: ElementKind>(
-    lock: Lock<'_>,
-    key: &[u8],
-    tape: Tape<'_>,
-    shape: Shape,
+    lock: &OpenLock<'_, K>,
+    key: &Group<'_, K>,
+    tape: &Tape<'_, K>,
     work1: &mut [u8],
     work2: &mut [u8],
     work3: &mut [u8],
     views: &mut [u8],
+    outs: &mut [u8],
 )
-    requires accepted { Accepted K.kind lock key.now tape shape }
-    requires shaped { Shaped K.kind shape (length views.old) }
-    requires within1 { (lock.inputs + lock.gates) * K.kind.width ≤ length work1.old }
-    requires within2 { (lock.inputs + lock.gates) * K.kind.width ≤ length work2.old }
-    requires within3 { (lock.inputs + lock.gates) * K.kind.width ≤ length work3.old }
-    ensures views { views.new ≡ round_views K.kind lock.entry key.now tape.entry }
-    ensures each { (i : Name) → view_part shape.view_length views.new i ≡ round_view K.kind lock.entry key.now tape.entry i }
-    ensures wires { (i : Name) → wires_on K.kind (lock.entry.inputs + lock.entry.gates) work1.new work2.new work3.new i ≡ round_wires K.kind lock.entry key.now tape.entry i }
-    ensures lawful { (i : Name) → AllByRecursion (Lawful K.kind) (wires_on K.kind (lock.entry.inputs + lock.entry.gates) work1.new work2.new work3.new i) }
+    requires fitting { Fitting lock.now key.now tape.now }
+    requires room1 { length_of_work K.kind lock.now ≤ length work1.old }
+    requires room2 { length_of_work K.kind lock.now ≤ length work2.old }
+    requires room3 { length_of_work K.kind lock.now ≤ length work3.old }
+    requires long { length views.old ≡ 3 * length_of_view K.kind lock.now }
+    requires sized { length outs.old ≡ 3 * outs_length K.kind lock.now }
+    ensures views { views.new ≡ views_on K.kind lock.now key.now tape.now }
+    ensures each { (i : Name) → length (view_on K.kind lock.now key.now tape.now i) ≡ length_of_view K.kind lock.now }
+    ensures outs { outs.new ≡ outs_on K.kind lock.now key.now tape.now one ++ (outs_on K.kind lock.now key.now tape.now two ++ outs_on K.kind lock.now key.now tape.now three) }
 {
-    let inputs = lock.inputs as usize;
-    write_fronts::<K>(tape, key, inputs, shape, views);
-    start_wires::<K>(
-        tape,
-        &views[2 * shape.view_length + 32..],
-        inputs,
-        work1,
-        work2,
-        work3,
-    );
-    let masks = Masks {
-        first: tape.mask1,
-        second: tape.mask2,
-        third: tape.mask3,
-    };
-    run_three::<K>(lock, masks, shape, work1, work2, work3, views);
+    let (view1, rest) = views.split_at_mut(lock.view_length());
+    let (view2, view3) = rest.split_at_mut(lock.view_length());
+    let (front1, products1) = view1.split_at_mut(lock.products_at());
+    let (front2, products2) = view2.split_at_mut(lock.products_at());
+    let (front3, products3) = view3.split_at_mut(lock.products_at());
+    write_front(front1, tape.blind1, tape.share1.bytes(), tape.mask1.bytes());
+    write_front(front2, tape.blind2, tape.share2.bytes(), tape.mask2.bytes());
+    write_third_front(lock, key, tape, front3);
+    let third_shares = Group::lawful(&front3[BLIND_LENGTH..], lock.input_count());
+    let mut trio = Trio::start(lock, tape, &third_shares, work1, work2, work3);
+    trio.run(lock, products1, products2, products3);
+    trio.write_outputs(lock, outs);
 }
 
-// Writes a round for lock, key and tape that passed their tests.
+// Writes a round for lock, key and tape.
 pub fn write_round<K: ElementKind, S: Sealer>(
     sealer: &S,
-    lock: Lock<'_>,
-    key: &[u8],
-    tape: Tape<'_>,
-    shape: Shape,
+    lock: &OpenLock<'_, K>,
+    key: &Group<'_, K>,
+    tape: &Tape<'_, K>,
     work1: &mut [u8],
     work2: &mut [u8],
     work3: &mut [u8],
     views: &mut [u8],
     first: &mut [u8],
 )
-    requires accepted { Accepted K.ElementKind.kind lock key.now tape shape }
-    requires shaped { Shaped K.ElementKind.kind shape (length views.old) }
-    requires within1 { (lock.inputs + lock.gates) * K.ElementKind.kind.width ≤ length work1.old }
-    requires within2 { (lock.inputs + lock.gates) * K.ElementKind.kind.width ≤ length work2.old }
-    requires within3 { (lock.inputs + lock.gates) * K.ElementKind.kind.width ≤ length work3.old }
-    requires short { shape.view_length ≤ S.Sealer.sealing.longest }
-    requires sized { length first.old ≡ first_length K.ElementKind.kind lock.outputs S.Sealer.sealing.size }
-    ensures views { views.new ≡ round_views K.ElementKind.kind lock.entry key.now tape.entry }
-    ensures first { first.new ≡ first_bytes K.ElementKind.kind (round_outs K.ElementKind.kind lock.entry key.now tape.entry) (λ i. S.Sealer.sealing.seal (round_view K.ElementKind.kind lock.entry key.now tape.entry i)) }
+    requires fitting { Fitting lock.now key.now tape.now }
+    requires short { length_of_view K.ElementKind.kind lock.now ≤ S.Sealer.sealing.longest }
+    requires room1 { length_of_work K.ElementKind.kind lock.now ≤ length work1.old }
+    requires room2 { length_of_work K.ElementKind.kind lock.now ≤ length work2.old }
+    requires room3 { length_of_work K.ElementKind.kind lock.now ≤ length work3.old }
+    requires long { length views.old ≡ 3 * length_of_view K.ElementKind.kind lock.now }
+    requires sized { length first.old ≡ length_of_first K.ElementKind.kind lock.now S.Sealer.sealing.size }
+    ensures views { views.new ≡ views_on K.ElementKind.kind lock.now key.now tape.now }
+    ensures first { first.new ≡ first_on K.ElementKind.kind lock.now key.now tape.now S.Sealer.sealing }
 {
-    write_views::<K>(lock, key, tape, shape, work1, work2, work3, views);
-    write_first::<K, S>(
-        sealer,
-        lock,
-        work1,
-        work2,
-        work3,
-        views,
-        shape.view_length,
-        first,
-    );
+    let (mark, rest) = first.split_at_mut(2);
+    let (outs, seals) = rest.split_at_mut(3 * group_length::<K>(lock.output_count()));
+    mark.copy_from_slice(b"FM");
+    write_views(lock, key, tape, work1, work2, work3, views, outs);
+    write_seals(sealer, views, lock.view_length(), seals);
 }

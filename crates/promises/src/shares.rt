@@ -1,53 +1,32 @@
 // The third branch's shares.
-ghost use Rattle.std.specs.Prelude.{◌≡◌, ◌<◌, ◌≤◌, length};
+ghost use Rattle.std.specs.Prelude.{◌≡◌, length};
 ghost use Rattle.std.specs.List.{AllByRecursion};
 ghost use Rattle.kinds.specs.Kind.{Lawful};
 ghost use Rattle.kinds.specs.Groups.{group_length};
 ghost use Rattle.theory.specs.Algebra.{ops_of};
-ghost use Rattle.theory.specs.Runs.{read, less};
-ghost use Rattle.theory.specs.Groups.{group, group_bytes};
+ghost use Rattle.theory.specs.Runs.{less};
+ghost use Rattle.theory.specs.Groups.{group_bytes};
 
-use branches::groups::{element, put_element};
+use branches::group::Group;
+use branches::groups::put_element;
 use kinds::kind::ElementKind;
 
-// The key's element minus the other two branches' shares of it.
-fn third_share<K: ElementKind>(
-    key: &[u8],
-    share1: &[u8],
-    share2: &[u8],
-    count: usize,
-    i: usize,
-) -> K
-    requires below { i < count }
-    requires within { (group_length K.kind count ≤ length key.now) × ((group_length K.kind count ≤ length share1.now) × (group_length K.kind count ≤ length share2.now)) }
-    requires lawful { AllByRecursion (Lawful K.kind) (group K.kind count key.now) }
-    requires lawful1 { AllByRecursion (Lawful K.kind) (group K.kind count share1.now) }
-    requires lawful2 { AllByRecursion (Lawful K.kind) (group K.kind count share2.now) }
-    ensures { K.ElementKind.row result ≡ K.kind.add (K.kind.add (read (ops_of K.kind) (group K.kind count key.now) i) (K.kind.neg (read (ops_of K.kind) (group K.kind count share1.now) i))) (K.kind.neg (read (ops_of K.kind) (group K.kind count share2.now) i)) }
-{
-    let whole: K = element(key, count, i);
-    let first: K = element(share1, count, i);
-    let second: K = element(share2, count, i);
-    whole.sum(first.negative()).sum(second.negative())
-}
-
-// Writes them over the whole of `out`.
-pub fn third_shares<K: ElementKind>(
-    key: &[u8],
-    share1: &[u8],
-    share2: &[u8],
-    count: usize,
+// Writes the key's elements minus the other two branches' shares of them over the whole of `out`.
+pub(crate) fn third_shares<K: ElementKind>(
+    key: &Group<'_, K>,
+    share1: &Group<'_, K>,
+    share2: &Group<'_, K>,
     out: &mut [u8],
 )
-    requires within { (group_length K.kind count ≤ length key.now) × ((group_length K.kind count ≤ length share1.now) × (group_length K.kind count ≤ length share2.now)) }
-    requires lawful { AllByRecursion (Lawful K.kind) (group K.kind count key.now) }
-    requires lawful1 { AllByRecursion (Lawful K.kind) (group K.kind count share1.now) }
-    requires lawful2 { AllByRecursion (Lawful K.kind) (group K.kind count share2.now) }
-    requires sized { length out.old ≡ group_length K.kind count }
-    ensures { out.new ≡ group_bytes K.kind (less (ops_of K.kind) (less (ops_of K.kind) (group K.kind count key.now) (group K.kind count share1.now)) (group K.kind count share2.now)) }
+    requires sized { length out.old ≡ group_length K.kind (length key.now) }
+    requires counted { (length share1.now ≡ length key.now) × (length share2.now ≡ length key.now) }
+    ensures bytes { out.new ≡ group_bytes K.kind (less (ops_of K.kind) (less (ops_of K.kind) key.now share1.now) share2.now) }
+    ensures lawful { AllByRecursion (Lawful K.kind) (less (ops_of K.kind) (less (ops_of K.kind) key.now share1.now) share2.now) }
 {
-    for i in 0..count {
-        let share: K = third_share(key, share1, share2, count, i);
+    let count = key.len();
+    let shares = key.elements().zip(share1.elements()).zip(share2.elements());
+    for (i, ((whole, first), second)) in shares.enumerate() {
+        let share = whole.sum(first.negative()).sum(second.negative());
         put_element(out, count, i, share);
     }
 }

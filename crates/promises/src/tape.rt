@@ -1,91 +1,107 @@
-// A tape: its parts, and whether its elements are lawful.
-ghost use Rattle.std.specs.Prelude.{◌≡◌, ◌+◌, ◌*◌, ◌^◌, ◌<◌, ◌≤◌, length};
+// A tape that was read: its elements are lawful, and contracts see its parts.
+ghost use Rattle.std.specs.Prelude.{◌≡◌, ◌+◌, ◌*◌, ◌<◌, ◌≤◌, length, take, drop};
+ghost use Rattle.faults.specs.Outcomes.{map_ok};
+ghost use Rattle.faults.specs.declared.Reason.{Reason};
 ghost use Rattle.kinds.specs.Groups.{group_length};
-ghost use Rattle.locks.specs.Lengths.{view_length, tape_length};
+ghost use Rattle.locks.specs.Circuit.{mus};
 ghost use Rattle.theory.specs.Groups.{group};
-ghost use Rattle.theory.specs.Messages.{behind};
+ghost use Rattle.theory.specs.Keeper.{tape_right};
+ghost use Rattle.theory.specs.Messages.{behind, length_of_tape, tape_of, shares_length, tape_shares_at, masks_in, tape_masks_at};
 ghost use Rattle.theory.specs.Tests.{lawful_at};
-ghost use Rattle.branches.specs.Named.{the_branch};
-ghost use Rattle.promises.specs.Tapes.{shares_from, masks_from, Cut, Sized, parts_right};
+ghost use Rattle.promises.specs.Drawn.{drawn_in};
 
-use crate::shape::{before, part};
-use branches::branch::Branch;
-use branches::groups::{element_at, first_unlawful, group_length};
-use faults::{Fault, Reason};
+use branches::group::Group;
+use branches::groups::group_length;
+use branches::lock::OpenLock;
+use branches::views::BLIND_LENGTH;
+use faults::{Branch, Fault, Reason};
 use kinds::kind::ElementKind;
-use locks::lock::Lock;
+use std::marker::Model;
 
 // Three blinds, the shares of branches 1 and 2, the masks of all three.
-#[derive(Clone, Copy)]
-pub struct Tape<'a> {
-    pub blind1: &'a [u8],
-    pub blind2: &'a [u8],
-    pub blind3: &'a [u8],
-    pub share1: &'a [u8],
-    pub share2: &'a [u8],
-    pub mask1: &'a [u8],
-    pub mask2: &'a [u8],
-    pub mask3: &'a [u8],
+#[derive(Drop)]
+pub struct Tape<'a, K: ElementKind> {
+    pub(crate) blind1: &'a [u8],
+    pub(crate) blind2: &'a [u8],
+    pub(crate) blind3: &'a [u8],
+    pub(crate) share1: Group<'a, K>,
+    pub(crate) share2: Group<'a, K>,
+    pub(crate) mask1: Group<'a, K>,
+    pub(crate) mask2: Group<'a, K>,
+    pub(crate) mask3: Group<'a, K>,
 }
 
-// Where a branch's shares begin in a tape.
-fn shares_at<K: ElementKind>(lock: Lock<'_>, branch: Branch) -> usize
-    requires short { view_length K.kind lock.inputs lock.products ≤ 65535 }
-    ensures { result ≡ shares_from K.kind lock.entry.inputs (behind (the_branch branch)) }
-{
-    96 + before(branch) * group_length::<K>(lock.inputs as usize)
+impl<'a, K: ElementKind> Model for Tape<'a, K> {
+    ghost use Rattle.promises.specs.Drawn.{Drawn};
+
+    ghost Value = { Drawn };
+
+    ghost view = { λ t. record { blind1 = t.blind1.now; blind2 = t.blind2.now; blind3 = t.blind3.now; parts = record { share1 = t.share1; share2 = t.share2; mask1 = t.mask1; mask2 = t.mask2; mask3 = t.mask3 } } };
 }
 
-// Where a branch's masks begin.
-fn masks_at<K: ElementKind>(lock: Lock<'_>, branch: Branch) -> usize
-    requires short { view_length K.kind lock.inputs lock.products ≤ 65535 }
-    ensures { result ≡ masks_from K.kind lock.entry.inputs lock.entry.products (behind (the_branch branch)) }
+fn blind_of(tape: &[u8], branch: Branch) -> &[u8]
+    requires { 96 ≤ length tape.now }
+    ensures { result.now ≡ take 32 (drop (32 * behind branch) tape.now) }
 {
-    96 + 2 * group_length::<K>(lock.inputs as usize)
-        + before(branch) * group_length::<K>(lock.products as usize)
+    let at = BLIND_LENGTH * branch.before();
+    &tape[at..at + BLIND_LENGTH]
 }
 
-pub fn split_tape<'a, K: ElementKind>(lock: Lock<'_>, tape: &'a [u8]) -> Tape<'a>
-    requires short { view_length K.kind lock.inputs lock.products ≤ 65535 }
-    requires sized { length tape.now ≡ tape_length K.kind lock.inputs lock.products }
-    ensures { Cut K.kind lock.entry.inputs lock.entry.products tape.now result }
+// The n elements that begin at an offset of the tape.
+fn elements_at<'a, K: ElementKind>(
+    tape: &'a [u8],
+    n: usize,
+    at: usize,
+) -> Result<Group<'a, K>, Fault>
+    requires { at + group_length K.kind n ≤ length tape.now }
+    ensures { result ≡ map_ok (λ _. group K.kind n (take (group_length K.kind n) (drop at tape.now))) (lawful_at K.kind Reason.UnlawfulTape at (group K.kind n (take (group_length K.kind n) (drop at tape.now)))) }
 {
-    let shares = group_length::<K>(lock.inputs as usize);
-    let masks = group_length::<K>(lock.products as usize);
-    Tape {
-        blind1: part(tape, 0, 32),
-        blind2: part(tape, 32, 32),
-        blind3: part(tape, 64, 32),
-        share1: part(tape, shares_at::<K>(lock, Branch::One), shares),
-        share2: part(tape, shares_at::<K>(lock, Branch::Two), shares),
-        mask1: part(tape, masks_at::<K>(lock, Branch::One), masks),
-        mask2: part(tape, masks_at::<K>(lock, Branch::Two), masks),
-        mask3: part(tape, masks_at::<K>(lock, Branch::Three), masks),
+    let size = group_length::<K>(n);
+    Group::read_at(&tape[at..at + size], n, Reason::UnlawfulTape, at)
+}
+
+fn shares_of<'a, K: ElementKind>(
+    lock: &OpenLock<'_, K>,
+    tape: &'a [u8],
+    branch: Branch,
+) -> Result<Group<'a, K>, Fault>
+    requires sized { length tape.now ≡ length_of_tape K.kind lock.now }
+    requires drawn { behind branch < 2 }
+    ensures { result ≡ map_ok (λ _. group K.kind lock.now.inputs (take (shares_length K.kind lock.now) (drop (tape_shares_at K.kind lock.now branch) tape.now))) (lawful_at K.kind Reason.UnlawfulTape (tape_shares_at K.kind lock.now branch) (group K.kind lock.now.inputs (take (shares_length K.kind lock.now) (drop (tape_shares_at K.kind lock.now branch) tape.now)))) }
+{
+    let inputs = lock.input_count();
+    let at = 3 * BLIND_LENGTH + branch.before() * group_length::<K>(inputs);
+    elements_at(tape, inputs, at)
+}
+
+fn masks_of<'a, K: ElementKind>(
+    lock: &OpenLock<'_, K>,
+    tape: &'a [u8],
+    branch: Branch,
+) -> Result<Group<'a, K>, Fault>
+    requires { length tape.now ≡ length_of_tape K.kind lock.now }
+    ensures { result ≡ map_ok (λ _. group K.kind (mus lock.now.gates) (masks_in K.kind lock.now tape.now branch)) (lawful_at K.kind Reason.UnlawfulTape (tape_masks_at K.kind lock.now branch) (group K.kind (mus lock.now.gates) (masks_in K.kind lock.now tape.now branch))) }
+{
+    let products = lock.product_count();
+    let shares_end = 3 * BLIND_LENGTH + 2 * group_length::<K>(lock.input_count());
+    let at = shares_end + branch.before() * group_length::<K>(products);
+    elements_at(tape, products, at)
+}
+
+impl<'a, K: ElementKind> Tape<'a, K> {
+    pub fn read(lock: &OpenLock<'_, K>, bytes: &'a [u8]) -> Result<Tape<'a, K>, Fault>
+        requires { length bytes.now ≡ length_of_tape K.kind lock.now }
+        ensures { result ≡ map_ok (λ _. drawn_in K.kind lock.now bytes.now) (tape_right K.kind lock.now (tape_of K.kind lock.now bytes.now)) }
+    {
+        Ok(Tape {
+            blind1: blind_of(bytes, Branch::One),
+            blind2: blind_of(bytes, Branch::Two),
+            blind3: blind_of(bytes, Branch::Three),
+            share1: shares_of(lock, bytes, Branch::One)?,
+            share2: shares_of(lock, bytes, Branch::Two)?,
+            mask1: masks_of(lock, bytes, Branch::One)?,
+            mask2: masks_of(lock, bytes, Branch::Two)?,
+            mask3: masks_of(lock, bytes, Branch::Three)?,
+        })
     }
-}
-
-// Tests the elements of a part of the tape that begins at the offset `at`.
-fn test_part<K: ElementKind>(bytes: &[u8], n: usize, at: usize) -> Result<(), Fault>
-    requires sized { length bytes.now ≡ group_length K.kind n }
-    requires near { at < 2 ^ 32 }
-    ensures { result ≡ lawful_at K.kind Reason.UnlawfulTape at (group K.kind n bytes.now) }
-{
-    match first_unlawful::<K>(bytes, n) {
-        Some(i) => Err(Fault::at(Reason::UnlawfulTape, at + element_at::<K>(i))),
-        None => Ok(()),
-    }
-}
-
-pub fn test_tape<K: ElementKind>(lock: Lock<'_>, tape: Tape<'_>) -> Result<(), Fault>
-    requires short { view_length K.kind lock.inputs lock.products ≤ 65535 }
-    requires sized { Sized K.kind lock.inputs lock.products tape }
-    ensures { result ≡ parts_right K.kind lock.entry.inputs lock.entry.products tape.entry }
-{
-    let inputs = lock.inputs as usize;
-    let products = lock.products as usize;
-    test_part::<K>(tape.share1, inputs, shares_at::<K>(lock, Branch::One))?;
-    test_part::<K>(tape.share2, inputs, shares_at::<K>(lock, Branch::Two))?;
-    test_part::<K>(tape.mask1, products, masks_at::<K>(lock, Branch::One))?;
-    test_part::<K>(tape.mask2, products, masks_at::<K>(lock, Branch::Two))?;
-    test_part::<K>(tape.mask3, products, masks_at::<K>(lock, Branch::Three))
 }

@@ -5,11 +5,12 @@ ghost use Rattle.std.specs.Prelude.{◌≡◌, ◌++◌, IfOk, string_bytes};
 ghost use Rattle.faults.specs.Outcomes.{map_ok};
 ghost use Rattle.locks.specs.Reading.{lock_of};
 ghost use Rattle.locks.specs.Locks.{summary, summary_of};
-ghost use Rattle.report.specs.Texts.{counts_line, lengths_line, told_line, refused_line, text_of, report_of};
+ghost use Rattle.report.specs.Texts.{counts_line, lengths_line, refused_line, text_of, report_of};
 
 use faults::Fault;
 use kinds::bit::Bit;
 use kinds::kind::ElementKind;
+use kinds::name::KindName;
 use kinds::residue::Residue;
 use kinds::word::Word;
 use locks::lock::Lock;
@@ -22,7 +23,7 @@ const SEAL_LENGTH: u8 = 32;
 fn counts_line<K: ElementKind>(heap: Global, lock: &Lock<'_>) -> Result<String, AllocError>
     ensures { IfOk result (λ t. string_bytes t ≡ counts_line K.kind (summary_of lock.now)) }
 {
-    let number = K::kind_number();
+    let number = K::NUMBER;
     let inputs = lock.inputs;
     let gates = lock.gates;
     let outputs = lock.outputs;
@@ -49,16 +50,10 @@ fn accepted<K: ElementKind>(heap: Global, lock: &Lock<'_>) -> Result<String, All
     Ok(text)
 }
 
-fn told_line(heap: Global, number: u8, branch: u8, place: usize) -> Result<String, AllocError>
-    ensures { IfOk result (λ t. string_bytes t ≡ told_line number branch place) }
-{
-    format!(in heap; "refused {number} {branch} {place}\n")
-}
-
 fn refused(heap: Global, fault: Fault) -> Result<String, AllocError>
     ensures { IfOk result (λ t. string_bytes t ≡ refused_line fault) }
 {
-    told_line(heap, fault.reason.number(), fault.branch, fault.place)
+    format!(in heap; "{fault}\n")
 }
 
 fn report_as<K: ElementKind>(heap: Global, bytes: &[u8]) -> Result<String, AllocError>
@@ -74,9 +69,12 @@ fn report_as<K: ElementKind>(heap: Global, bytes: &[u8]) -> Result<String, Alloc
 pub fn report(heap: Global, bytes: &[u8]) -> Result<String, AllocError>
     ensures { IfOk result (λ t. string_bytes t ≡ report_of bytes.now) }
 {
-    match bytes {
-        [_, _, Bit::NUMBER, ..] => report_as::<Bit>(heap, bytes),
-        [_, _, Residue::NUMBER, ..] => report_as::<Residue>(heap, bytes),
-        _ => report_as::<Word>(heap, bytes),
+    let name = bytes
+        .get(2)
+        .and_then(|number| KindName::try_from(*number).ok());
+    match name.unwrap_or(KindName::Word) {
+        KindName::Bit => report_as::<Bit>(heap, bytes),
+        KindName::Word => report_as::<Word>(heap, bytes),
+        KindName::Residue => report_as::<Residue>(heap, bytes),
     }
 }

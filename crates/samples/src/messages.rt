@@ -1,6 +1,10 @@
 // First messages and answers of the worked lock over words, made by hand.
+ghost use Rattle.std.specs.Prelude.{◌≡◌, ◌+◌, ◌*◌, IfOk, length, vec_len};
+
+use faults::Branch;
 use seals::Sealer;
 use std::alloc::{AllocError, Global};
+use std::test::Fail;
 
 // Products and output shares of the three branches; shares and masks are fixed.
 #[derive(Clone, Copy)]
@@ -37,55 +41,56 @@ pub const SHIFTED: Round = Round {
     outputs: [339, 4_294_967_220, 4_294_967_050],
 };
 
-// 32 blind bytes that are alike, and four numbers: two shares, a mask, a product.
-pub fn view(heap: Global, blind: u8, numbers: [u32; 4]) -> Result<Vec<u8>, AllocError> {
-    let mut bytes = Vec::new(heap);
-    bytes.extend_from_slice(&[blind; 32])?;
+// Bytes, and numbers of four bytes behind them.
+pub fn joined(heap: Global, head: &[u8], numbers: &[u32]) -> Result<Vec<u8>, AllocError>
+    ensures { IfOk result (λ bytes. vec_len bytes ≡ length head.now + 4 * length numbers.now) }
+{
+    let mut bytes = head.to_vec(heap)?;
     for number in numbers {
         bytes.extend_from_slice(&number.to_be_bytes())?;
     }
     Ok(bytes)
 }
 
-// The views of branches 1, 2, 3; their shares are (10, 20), (1, 2) and (-8, -18), their masks 100, 7 and 50.
-pub fn views(heap: Global, round: Round) -> Result<(Vec<u8>, Vec<u8>, Vec<u8>), AllocError> {
-    let [one, two, three] = round.products;
-    Ok((
-        view(heap, 1, [10, 20, 100, one])?,
-        view(heap, 2, [1, 2, 7, two])?,
-        view(heap, 3, [4_294_967_288, 4_294_967_278, 50, three])?,
-    ))
-}
-
-// Mark, output shares and seals.
-pub fn first<S: Sealer>(heap: Global, sealer: &S, round: Round) -> Result<Vec<u8>, AllocError> {
-    let mut bytes = Vec::new(heap);
-    bytes.extend_from_slice(b"FM")?;
-    for share in round.outputs {
-        bytes.extend_from_slice(&share.to_be_bytes())?;
+impl Round {
+    // 32 blind bytes that are alike, two shares, a mask and the product.
+    pub fn view(self, heap: Global, branch: Branch, blind: u8) -> Result<Vec<u8>, AllocError>
+        ensures { IfOk result (λ view. vec_len view ≡ 48) }
+    {
+        let [one, two, three] = self.products;
+        let numbers = match branch {
+            Branch::One => [10, 20, 100, one],
+            Branch::Two => [1, 2, 7, two],
+            Branch::Three => [4_294_967_288, 4_294_967_278, 50, three],
+        };
+        joined(heap, &[blind; 32], &numbers)
     }
-    let (one, two, three) = views(heap, round)?;
-    for view in [one.as_slice(), two.as_slice(), three.as_slice()] {
-        let mut seal = vec![in heap; 0u8; S::seal_length()]?;
-        let _ = sealer.seal(view, seal.as_mut_slice());
-        bytes.extend_from_slice(seal.as_slice())?;
-    }
-    Ok(bytes)
-}
 
-// Mark, pick, the picked view and the one after it.
-pub fn answer(heap: Global, round: Round, pick: u8) -> Result<Vec<u8>, AllocError> {
-    let (one, two, three) = views(heap, round)?;
-    let (picked, following) = match pick {
-        1 => (one.as_slice(), two.as_slice()),
-        2 => (two.as_slice(), three.as_slice()),
-        _ => (three.as_slice(), one.as_slice()),
-    };
-    let mut bytes = Vec::new(heap);
-    bytes.extend_from_slice(&[b'A', b'N', pick])?;
-    bytes.extend_from_slice(picked)?;
-    bytes.extend_from_slice(following)?;
-    Ok(bytes)
+    // Mark, output shares and seals. The blinds are the branches' numbers.
+    pub fn first<S: Sealer>(self, heap: Global, sealer: &S) -> Result<Vec<u8>, Fail>
+        ensures { IfOk result (λ first. vec_len first ≡ 14 + 3 * S.sealing.size) }
+    {
+        let mut bytes = joined(heap, b"FM", &self.outputs)?;
+        for branch in [Branch::One, Branch::Two, Branch::Three] {
+            let view = self.view(heap, branch, branch.number())?;
+            let mut seal = vec![in heap; 0u8; S::LENGTH]?;
+            sealer.seal(view.as_slice(), seal.as_mut_slice())?;
+            bytes.extend_from_slice(seal.as_slice())?;
+        }
+        Ok(bytes)
+    }
+
+    // Mark, pick, the view of the picked branch and the one after it.
+    pub fn answer(self, heap: Global, pick: Branch) -> Result<Vec<u8>, AllocError>
+        ensures { IfOk result (λ answer. vec_len answer ≡ 99) }
+    {
+        let mut bytes = [b'A', b'N', pick.number()].to_vec(heap)?;
+        for branch in [pick, pick.after()] {
+            let view = self.view(heap, branch, branch.number())?;
+            bytes.extend_from_slice(view.as_slice())?;
+        }
+        Ok(bytes)
+    }
 }
 
 // Turns the lowest bit of one byte.

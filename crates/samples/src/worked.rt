@@ -1,4 +1,6 @@
 // Locks of a few records, their keys and their tapes.
+ghost use Rattle.std.specs.Prelude.{◌≡◌, ◌+◌, IfOk, length, vec_len};
+
 use std::alloc::{AllocError, Global};
 
 // Two inputs; wire 2 is their product, wire 3 adds 5 and must be 17.
@@ -35,22 +37,25 @@ pub const NO_RESIDUE: [u8; 45] =
 pub const FIVE: [u8; 25] = *b"LK\x02\0\0\0\x05\0\0\0\0\0\0\0\x01OU\0\0\0\0\0\0\0\x01";
 
 // The key of the locks over words and residues: 3 and 4.
-pub const KEY: [u8; 8] = [0, 0, 0, 3, 0, 0, 0, 4];
+pub const KEY: [u8; 8] = *b"\0\0\0\x03\0\0\0\x04";
 
-// Three blinds that are alike; shares (10, 20) and (1, 2); masks 100, 7, 50.
-pub fn tape(heap: Global, blinds: u8) -> Result<Vec<u8>, AllocError> {
+// What a tape for them has behind the blinds: shares (10, 20) and (1, 2), masks 100, 7, 50.
+pub const NUMBERS: [u8; 28] =
+    *b"\0\0\0\x0a\0\0\0\x14\0\0\0\x01\0\0\0\x02\0\0\0\x64\0\0\0\x07\0\0\0\x32";
+
+// The key of the two bits, and what a tape for them has behind the blinds.
+pub const BIT_KEY: [u8; 2] = [1, 1];
+
+pub const BIT_NUMBERS: [u8; 7] = [1, 0, 0, 1, 1, 0, 1];
+
+// A tape: the blinds of the three branches, each of one byte 32 times, then its elements.
+pub fn tape(heap: Global, blinds: [u8; 3], elements: &[u8]) -> Result<Vec<u8>, AllocError>
+    ensures { IfOk result (λ tape. vec_len tape ≡ 96 + length elements.now) }
+{
     let mut bytes = Vec::new(heap);
-    bytes.extend_from_slice(&[blinds; 96])?;
-    for number in [10u32, 20, 1, 2, 100, 7, 50] {
-        bytes.extend_from_slice(&number.to_be_bytes())?;
+    for blind in blinds {
+        bytes.extend_from_slice(&[blind; 32])?;
     }
-    Ok(bytes)
-}
-
-// A tape for the two bits.
-pub fn bit_tape(heap: Global, blinds: u8) -> Result<Vec<u8>, AllocError> {
-    let mut bytes = Vec::new(heap);
-    bytes.extend_from_slice(&[blinds; 96])?;
-    bytes.extend_from_slice(&[1, 0, 0, 1, 1, 0, 1])?;
+    bytes.extend_from_slice(elements)?;
     Ok(bytes)
 }

@@ -1,4 +1,3 @@
 pub mod Choice
 pub mod Steps
 pub mod Padding
-pub mod Whole

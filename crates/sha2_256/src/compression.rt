@@ -1,10 +1,13 @@
-// The hash value after one block, and after many.
-ghost use Rattle.std.specs.Prelude.{◌≡◌, ℕ, ◌*◌, ◌≤◌, [], ◌∷◌, map, length, take, slice_index_or};
+// The hash value, and what a block makes of it.
+ghost use Rattle.std.specs.Prelude.{◌≡◌, ◌≤◌, map, length, take, slice_index_or};
 ghost use Rattle.std.specs.List.{range_with_len};
-ghost use Rattle.parts.specs.Blocks.{over_blocks};
-ghost use Rattle.sha2_256.specs.Sha256.{◌⊞◌, ch, maj, Σ0, Σ1, σ0, σ1, k, schedule, round, rounds, compressed};
+ghost use Rattle.sha2_256.specs.Keyed.{keyed_round, keyed_rounds};
+ghost use Rattle.std.proofs.Common.{lit<};
+ghost use Rattle.sha2_256.specs.Sha256.{◌⊞◌, ch, maj, Σ0, Σ1, σ0, σ1, k, schedule, rounds, compressed};
 
-use parts::word_be;
+use parts::states::BlockState;
+use parts::words::Word;
+use std::array;
 
 const K: [u32; 64] = [
     0x428a_2f98,
@@ -115,8 +118,8 @@ fn first_words(block: &[u8]) -> [u32; 64]
     ensures { take 16 result ≡ schedule 16 block.now }
 {
     let mut w = [0; 64];
-    for t in 0..16 {
-        w[t] = word_be(block, t);
+    for (t, word) in w[..16].iter_mut().enumerate() {
+        *word = u32::read(block, t);
     }
     w
 }
@@ -139,62 +142,61 @@ fn expand(block: &[u8]) -> [u32; 64]
 fn add_constants(w: &[u32; 64]) -> [u32; 64]
     ensures { result ≡ map (λ t. slice_index_or k t 0 ⊞ slice_index_or w.now t 0) (range_with_len 0 64) }
 {
-    let mut v = [0; 64];
-    for t in 0..64 {
-        v[t] = K[t].wrapping_add(w[t]);
-    }
-    v
+    array::from_fn(|t| K[t].wrapping_add(w[t]))
 }
 
-// One round, for the sum of its constant and its word: what becomes of `d` and of `h`, which the next round has
-// as its fifth and its first variable.
-fn step(a: u32, b: u32, c: u32, d: u32, e: u32, f: u32, g: u32, h: u32, keyed: u32) -> (u32, u32)
-    ensures { (kt wt : ℕ) → keyed ≡ kt ⊞ wt → result.1 ∷ a ∷ b ∷ c ∷ result.0 ∷ e ∷ f ∷ g ∷ [] ≡ round kt wt (a ∷ b ∷ c ∷ d ∷ e ∷ f ∷ g ∷ h ∷ []) }
+// One round, for the sum of its constant and its word.
+fn turn(s: &mut [u32; 8], keyed: u32)
+    ensures { s.new ≡ keyed_round s.old keyed }
 {
+    let [a, b, c, d, e, f, g, h] = *s;
     let t1 = h
         .wrapping_add(upper1(e))
         .wrapping_add(choose(e, f, g))
         .wrapping_add(keyed);
     let t2 = upper0(a).wrapping_add(majority(a, b, c));
-    (d.wrapping_add(t1), t1.wrapping_add(t2))
+    *s = [t1.wrapping_add(t2), a, b, c, d.wrapping_add(t1), e, f, g];
+}
+
+// Eight rounds: as many as the compiler writes out, so that the variables change their names and not their places.
+fn eight_turns(s: &mut [u32; 8], eight: &[u32])
+    requires { 8 ≤ length eight.now }
+    ensures { s.new ≡ keyed_rounds s.old (take 8 eight.now) }
+{
+    for keyed in &eight[..8] {
+        turn(s, *keyed);
+    }
 }
 
 fn mix(w: &[u32; 64], s: &[u32; 8]) -> [u32; 8]
     ensures { result ≡ rounds 64 w.now s.now }
 {
-    let v = add_constants(w);
-    let [mut a, mut b, mut c, mut d, mut e, mut f, mut g, mut h] = *s;
-    for i in 0..8 {
-        let t = 8 * i;
-        (d, h) = step(a, b, c, d, e, f, g, h, v[t]);
-        (c, g) = step(h, a, b, c, d, e, f, g, v[t + 1]);
-        (b, f) = step(g, h, a, b, c, d, e, f, v[t + 2]);
-        (a, e) = step(f, g, h, a, b, c, d, e, v[t + 3]);
-        (h, d) = step(e, f, g, h, a, b, c, d, v[t + 4]);
-        (g, c) = step(d, e, f, g, h, a, b, c, v[t + 5]);
-        (f, b) = step(c, d, e, f, g, h, a, b, v[t + 6]);
-        (e, a) = step(b, c, d, e, f, g, h, a, v[t + 7]);
+    let mut turned = *s;
+    for eight in add_constants(w).chunks_exact(8) {
+        eight_turns(&mut turned, eight);
     }
-    [a, b, c, d, e, f, g, h]
+    turned
 }
 
-fn compress(state: &mut [u32; 8], block: &[u8])
-    requires { length block.now ≡ 64 }
-    ensures { state.new ≡ compressed state.old block.now }
-{
-    let w = expand(block);
-    let v = mix(&w, state);
-    for i in 0..8 {
-        state[i] = v[i].wrapping_add(state[i]);
-    }
+#[derive(Clone, Copy)]
+pub struct HashValue {
+    pub words: [u32; 8],
 }
 
-// Takes in the first `count` blocks of `bytes`.
-pub fn absorb(state: &mut [u32; 8], bytes: &[u8], count: usize)
-    requires { 64 * count ≤ length bytes.now }
-    ensures { state.new ≡ over_blocks compressed 64 state.old count bytes.now }
-{
-    for i in 0..count {
-        compress(state, &bytes[64 * i..64 * i + 64]);
+impl BlockState for HashValue {
+    const BLOCK: usize = 64;
+
+    ghost BLOCK = { 64 };
+
+    ghost words = { λ h. h.words };
+
+    ghost step = { compressed };
+
+    ghost some_block = { lit< tt };
+
+    fn take_in(&mut self, block: &[u8]) {
+        let w = expand(block);
+        let v = mix(&w, &self.words);
+        self.words = array::from_fn(|i| v[i].wrapping_add(self.words[i]));
     }
 }

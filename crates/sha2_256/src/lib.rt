@@ -1,15 +1,17 @@
 // SHA-256 (FIPS 180-4) as a sealer.
 #![tactic(auto)]
 
-ghost use Rattle.std.specs.Prelude.{◌≡◌, ◌+◌, ◌*◌, ◌/◌, ◌%◌, ◌^◌, ◌<◌, ◌++◌, length, take};
-ghost use Rattle.sha2_256.specs.Sha256.{padding, sha256_of, sha256_sealing};
+ghost use Rattle.std.specs.Prelude.{◌≡◌, ◌/◌, ◌%◌, ◌^◌, ◌<◌, ◌++◌, length, refl};
+ghost use Rattle.parts.specs.Blocks.{over_blocks};
+ghost use Rattle.sha2_256.specs.Sha256.{compressed, padding, longest_message, sha256_sealing};
 ghost use Rattle.std.proofs.Common.{lit≤};
 ghost use Rattle.sha2_256.specs.Digest.{length_digest, digest_bytes};
 
-use compression::absorb;
-use faults::Fault;
-use parts::{put, write_be};
-use seals::{Sealer, admit};
+use compression::HashValue;
+use parts::put;
+use parts::states::BlockState;
+use parts::words::write_words;
+use seals::Sealer;
 
 mod compression;
 
@@ -24,34 +26,22 @@ const INITIAL: [u32; 8] = [
     0x5be0_cd19,
 ];
 
-// The last bytes of a message of `total` bytes, with its padding, and how many blocks they make.
-fn pad(rest: &[u8], total: usize) -> ([u8; 128], usize)
-    requires last { length rest.now ≡ total % 64 }
-    requires short { total < 2 ^ 61 }
-    ensures count { result.1 ≡ (length rest.now + 72) / 64 }
-    ensures bytes { take (64 * result.1) result.0 ≡ rest.now ++ padding total }
-{
-    let used = rest.len();
-    let count = (used + 72) / 64;
-    let mut tail = [0; 128];
-    put(&mut tail, 0, rest);
-    tail[used] = 0x80;
-    let bits = (8 * total as u64).to_be_bytes();
-    put(&mut tail, 64 * count - 8, &bits);
-    (tail, count)
-}
-
-fn digest(message: &[u8], out: &mut [u8])
-    requires short { length message.now < 2 ^ 61 }
-    requires sized { length out.old ≡ 32 }
-    ensures { out.new ≡ sha256_of message.now }
-{
-    let mut state = INITIAL;
-    let full = message.len() / 64;
-    absorb(&mut state, message, full);
-    let (tail, count) = pad(&message[64 * full..], message.len());
-    absorb(&mut state, &tail, count);
-    write_be(&state, out);
+impl HashValue {
+    // Takes in the last bytes of a message of `total` bytes, with its padding.
+    fn finish(&mut self, rest: &[u8], total: usize)
+        requires last { length rest.now ≡ total % 64 }
+        requires short { total < 2 ^ 61 }
+        ensures { self.new.words ≡ over_blocks compressed 64 self.old.words (length (rest.now ++ padding total) / 64) (rest.now ++ padding total) }
+    {
+        let used = rest.len();
+        let size = 64 * ((used + 72) / 64);
+        let mut tail = [0; 128];
+        put(&mut tail, 0, rest);
+        tail[used] = 0x80;
+        let bits = (8 * total as u64).to_be_bytes();
+        put(&mut tail, size - 8, &bits);
+        self.absorb(&tail[..size]);
+    }
 }
 
 #[derive(Clone, Copy)]
@@ -62,21 +52,22 @@ impl Sealer for Sha256 {
 
     const LONGEST: usize = 65_535;
 
+    ghost LENGTH = { 32 };
+
+    ghost LONGEST = { longest_message };
+
     ghost sealing = { sha256_sealing };
+
+    ghost length_is = { refl };
+
+    ghost longest_is = { refl };
 
     ghost sound = { record { some_size = lit≤ tt; most_size = lit≤ tt; sized = length_digest; bytes = digest_bytes } };
 
-    fn seal_length() -> usize {
-        Self::LENGTH
-    }
-
-    fn longest_message() -> usize {
-        Self::LONGEST
-    }
-
-    fn seal(&self, message: &[u8], out: &mut [u8]) -> Result<(), Fault> {
-        admit(Self::LONGEST, Self::LENGTH, message.len(), out.len())?;
-        digest(message, out);
-        Ok(())
+    fn digest(&self, message: &[u8], out: &mut [u8]) {
+        let mut hash = HashValue { words: INITIAL };
+        let rest = hash.absorb(message);
+        hash.finish(rest, message.len());
+        write_words(&hash.words, out);
     }
 }

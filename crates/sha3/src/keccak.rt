@@ -3,13 +3,40 @@ ghost use Rattle.std.specs.Prelude.{◌≡◌, map};
 ghost use Rattle.std.specs.List.{range_with_len};
 ghost use Rattle.sha3.specs.Keccak.{column, effect_at, θ, ρ, π, χ, keccak};
 
+use std::array;
+
 // Where the lane at each place after ρ and π stood before, and by how much it is turned.
-const SOURCE: [usize; 25] = [
-    0, 6, 12, 18, 24, 3, 9, 10, 16, 22, 1, 7, 13, 19, 20, 4, 5, 11, 17, 23, 2, 8, 14, 15, 21,
+static MOVES: [(usize, u32); 25] = [
+    (0, 0),
+    (6, 44),
+    (12, 43),
+    (18, 21),
+    (24, 14),
+    (3, 28),
+    (9, 20),
+    (10, 3),
+    (16, 45),
+    (22, 61),
+    (1, 1),
+    (7, 6),
+    (13, 25),
+    (19, 8),
+    (20, 18),
+    (4, 27),
+    (5, 36),
+    (11, 10),
+    (17, 15),
+    (23, 56),
+    (2, 62),
+    (8, 55),
+    (14, 39),
+    (15, 41),
+    (21, 2),
 ];
 
-const TURN: [u32; 25] = [
-    0, 44, 43, 21, 14, 28, 20, 3, 45, 61, 1, 6, 25, 8, 18, 27, 36, 10, 15, 56, 62, 55, 39, 41, 2,
+// The sheet of each lane: a table, so that the loop over it is unrolled.
+const SHEET: [usize; 25] = [
+    0, 1, 2, 3, 4, 0, 1, 2, 3, 4, 0, 1, 2, 3, 4, 0, 1, 2, 3, 4, 0, 1, 2, 3, 4,
 ];
 
 const RC: [u64; 24] = [
@@ -42,65 +69,29 @@ const RC: [u64; 24] = [
 fn columns(a: &[u64; 25]) -> [u64; 5]
     ensures { result ≡ map (column a.now) (range_with_len 0 5) }
 {
-    let mut c = [0; 5];
-    for x in 0..5 {
-        c[x] = a[x] ^ a[x + 5] ^ a[x + 10] ^ a[x + 15] ^ a[x + 20];
-    }
-    c
+    array::from_fn(|x| a[x] ^ a[x + 5] ^ a[x + 10] ^ a[x + 15] ^ a[x + 20])
 }
 
 fn effects(c: &[u64; 5]) -> [u64; 5]
     ensures { result ≡ map (effect_at c.now) (range_with_len 0 5) }
 {
-    let mut d = [0; 5];
-    for x in 0..5 {
-        d[x] = c[(x + 4) % 5] ^ c[(x + 1) % 5].rotate_left(1);
-    }
-    d
+    array::from_fn(|x| c[(x + 4) % 5] ^ c[(x + 1) % 5].rotate_left(1))
 }
 
 fn theta(a: &[u64; 25]) -> [u64; 25]
     ensures { result ≡ θ a.now }
 {
-    let c = columns(a);
-    let d = effects(&c);
-    [
-        a[0] ^ d[0],
-        a[1] ^ d[1],
-        a[2] ^ d[2],
-        a[3] ^ d[3],
-        a[4] ^ d[4],
-        a[5] ^ d[0],
-        a[6] ^ d[1],
-        a[7] ^ d[2],
-        a[8] ^ d[3],
-        a[9] ^ d[4],
-        a[10] ^ d[0],
-        a[11] ^ d[1],
-        a[12] ^ d[2],
-        a[13] ^ d[3],
-        a[14] ^ d[4],
-        a[15] ^ d[0],
-        a[16] ^ d[1],
-        a[17] ^ d[2],
-        a[18] ^ d[3],
-        a[19] ^ d[4],
-        a[20] ^ d[0],
-        a[21] ^ d[1],
-        a[22] ^ d[2],
-        a[23] ^ d[3],
-        a[24] ^ d[4],
-    ]
+    let d = effects(&columns(a));
+    array::from_fn(|i| a[i] ^ d[SHEET[i]])
 }
 
 fn rho_pi(a: &[u64; 25]) -> [u64; 25]
     ensures { result ≡ π (ρ a.now) }
 {
-    let mut b = [0; 25];
-    for i in 0..25 {
-        b[i] = a[SOURCE[i]].rotate_left(TURN[i]);
-    }
-    b
+    array::from_fn(|i| {
+        let (source, turn) = MOVES[i];
+        a[source].rotate_left(turn)
+    })
 }
 
 fn chi(a: &[u64; 25]) -> [u64; 25]
@@ -138,10 +129,8 @@ fn chi(a: &[u64; 25]) -> [u64; 25]
 pub fn permute(a: &mut [u64; 25])
     ensures { a.new ≡ keccak 24 a.old }
 {
-    for t in 0..24 {
-        let b = theta(a);
-        let d = rho_pi(&b);
-        *a = chi(&d);
-        a[0] ^= RC[t];
+    for constant in &RC {
+        *a = chi(&rho_pi(&theta(a)));
+        a[0] ^= *constant;
     }
 }

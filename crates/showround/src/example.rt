@@ -1,5 +1,7 @@
 // What the program plays with, from files.
 use crate::stop::Stop;
+use kinds::name::KindName;
+use plays::Opening;
 use std::fs;
 
 // A lock with a key, a tape, and the pick of the round that is shown in full.
@@ -36,5 +38,21 @@ impl Example {
             tape,
             pick: first_digit(pick.as_slice()),
         })
+    }
+
+    // The kind of element that the lock names.
+    pub fn kind(&self) -> Option<KindName> {
+        match self.lock.as_slice() {
+            [_, _, number, ..] => KindName::try_from(*number).ok(),
+            _ => None,
+        }
+    }
+
+    pub fn opening(&self) -> Opening<'_> {
+        Opening {
+            lock: self.lock.as_slice(),
+            key: self.key.as_slice(),
+            tape: self.tape.as_slice(),
+        }
     }
 }

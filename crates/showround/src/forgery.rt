@@ -1,14 +1,13 @@
 // A forgery: one more in the first product of branch 1, in its first output share and in the lock's last target, with the seal made to match.
-use crate::example::Example;
 use crate::messages::Messages;
 use crate::stop::Stop;
 use engine::{ElementKind, Lock, Sealer};
-use std::alloc::Global;
+use std::alloc::{AllocError, Global};
 
 // One more in the byte at an offset, if there is one.
 fn raise(bytes: &mut [u8], at: usize) {
-    if at < bytes.len() {
-        bytes[at] = bytes[at].wrapping_add(1);
+    if let Some(byte) = bytes.get_mut(at) {
+        *byte = byte.wrapping_add(1);
     }
 }
 
@@ -21,43 +20,46 @@ fn reseal<S: Sealer>(
     first: &mut [u8],
     at: usize,
 ) -> Result<(), Stop> {
-    let size = S::seal_length();
+    let size = S::LENGTH;
     if from.saturating_add(length) <= answer.len() && at.saturating_add(size) <= first.len() {
         sealer.seal(&answer[from..from + length], &mut first[at..at + size])?;
     }
     Ok(())
 }
 
-// Changes the messages; gives the lock that they claim to open.
+// The messages, forged.
 pub fn forge<K: ElementKind, S: Sealer>(
-    heap: Global,
     sealer: &S,
-    example: &Example,
-    lock: &Lock<'_>,
-    messages: &mut Messages,
-) -> Result<Vec<u8>, Stop> {
-    let row = K::row_length();
+    lock: Lock<'_>,
+    messages: Messages,
+) -> Result<Messages, Stop> {
+    let Messages {
+        mut first,
+        answers: [mut one, two, mut three],
+    } = messages;
+    let row = K::WIDTH;
     let view = lock.view_length::<K>();
     // last bytes: of the first product in a view, and of the first output share
     let product = (lock.inputs as usize + lock.products as usize) * row + 31 + row;
-    raise(messages.one.as_mut_slice(), product.saturating_add(3));
+    let seals = 2 + 3 * row * lock.outputs as usize;
+    raise(one.as_mut_slice(), product.saturating_add(3));
     raise(
-        messages.three.as_mut_slice(),
+        three.as_mut_slice(),
         product.saturating_add(view).saturating_add(3),
     );
-    raise(messages.first.as_mut_slice(), 1 + row);
-    let at = 2 + 3 * row * lock.outputs as usize;
-    reseal(
-        sealer,
-        messages.one.as_slice(),
-        3,
-        view,
-        messages.first.as_mut_slice(),
-        at,
-    )?;
-    let mut claimed = Vec::new(heap);
-    claimed.extend_from_slice(example.lock.as_slice())?;
-    let last = claimed.len().saturating_sub(1);
-    raise(claimed.as_mut_slice(), last);
+    raise(first.as_mut_slice(), 1 + row);
+    reseal(sealer, one.as_slice(), 3, view, first.as_mut_slice(), seals)?;
+    Ok(Messages {
+        first,
+        answers: [one, two, three],
+    })
+}
+
+// The lock that the forged messages claim to open: one more in its last byte.
+pub fn claimed(heap: Global, lock: &[u8]) -> Result<Vec<u8>, AllocError> {
+    let mut claimed = lock.to_vec(heap)?;
+    if let Some(byte) = claimed.last_mut() {
+        *byte = byte.wrapping_add(1);
+    }
     Ok(claimed)
 }

@@ -3,6 +3,7 @@
 
 use engine::{Bit, ElementKind, Residue, Sha3_256, Sha256, Word, promises_stand};
 use example::Example;
+use kinds::name::KindName;
 use report::report;
 use shown::show;
 use std::env;
@@ -11,9 +12,9 @@ use stop::Stop;
 mod example;
 mod forgery;
 mod messages;
+mod player;
 mod shown;
 mod stop;
-mod text;
 
 fn show_as<K: ElementKind>(rt: &HostRuntime, example: &Example) -> Result<(), Stop> {
     println!(rt; "SHA-256")?;
@@ -30,10 +31,11 @@ fn play(rt: &HostRuntime) -> Result<(), Stop> {
     let example = Example::read(rt, name.as_str())?;
     let told = report(rt.alloc(), example.lock.as_slice())?;
     print!(rt; "{told}")?;
-    match example.lock.as_slice() {
-        [_, _, Bit::NUMBER, ..] => show_as::<Bit>(rt, &example),
-        [_, _, Residue::NUMBER, ..] => show_as::<Residue>(rt, &example),
-        _ => show_as::<Word>(rt, &example),
+    match example.kind() {
+        Some(KindName::Bit) => show_as::<Bit>(rt, &example),
+        Some(KindName::Residue) => show_as::<Residue>(rt, &example),
+        // a lock of no kind is refused as one of words
+        Some(KindName::Word) | None => show_as::<Word>(rt, &example),
     }
 }
 
@@ -41,7 +43,7 @@ fn main(rt: HostRuntime) -> Result<(), Stop> {
     promises_stand();
     let played = play(&rt);
     if let Err(Stop::Refused(fault)) = &played {
-        println!(rt; "{}", text::Refusal(*fault))?;
+        println!(rt; "{fault}")?;
         return Ok(());
     }
     played

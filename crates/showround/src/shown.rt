@@ -1,82 +1,60 @@
 // One sealer's part of the text.
 use crate::example::Example;
-use crate::forgery::forge;
-use crate::messages::{Messages, zeros};
+use crate::forgery::{claimed, forge};
+use crate::messages::{Messages, PICKS};
+use crate::player::{Player, Sizes};
 use crate::stop::Stop;
-use crate::text::{Hex, Refusal, Verdict};
-use engine::{ElementKind, Extracted, Keeper, Lock, Sealer, read_lock, verify};
+use engine::{ElementKind, Extracted, Fault, Keeper, Sealer, read_lock};
+use faults::Branch;
+use plays::Opening;
+use std::fmt;
 
-// A first message and an answer.
-struct Shown {
-    first: Vec<u8>,
-    answer: Vec<u8>,
+// The verifier's word.
+#[derive(Clone, Copy)]
+struct Verdict(Result<(), Fault>);
+
+impl fmt::Display for Verdict {
+    fn fmt<W: fmt::Write>(&self, f: &mut fmt::Formatter<W>) -> fmt::Result {
+        match self.0 {
+            Ok(()) => write!(f, "accepted"),
+            Err(fault) => write!(f, "{fault}"),
+        }
+    }
 }
 
 // The round that the example's pick asks for, step by step: a keeper of one round promises, then answers.
-fn keep<K: ElementKind, S: Sealer>(
-    rt: &HostRuntime,
-    sealer: &S,
-    example: &Example,
-    lock: &Lock<'_>,
-) -> Result<Shown, Stop> {
-    let view = lock.view_length::<K>();
-    let mut store = zeros(rt.alloc(), view.saturating_mul(3))?;
-    let mut work1 = zeros(rt.alloc(), lock.work_length::<K>())?;
-    let mut work2 = zeros(rt.alloc(), lock.work_length::<K>())?;
-    let mut work3 = zeros(rt.alloc(), lock.work_length::<K>())?;
-    let mut first = zeros(rt.alloc(), lock.first_length::<K>(S::seal_length() as u8))?;
-    let mut answer = zeros(rt.alloc(), lock.answer_length::<K>())?;
-    let mut keeper = Keeper::new(view, store.as_mut_slice());
-    let round = keeper.promise::<K, S>(
-        sealer,
-        example.lock.as_slice(),
-        example.key.as_slice(),
-        example.tape.as_slice(),
-        work1.as_mut_slice(),
-        work2.as_mut_slice(),
-        work3.as_mut_slice(),
-        first.as_mut_slice(),
-    )?;
-    println!(rt; "promise round {round}")?;
-    keeper.answer(round, example.pick, answer.as_mut_slice())?;
-    Ok(Shown { first, answer })
-}
-
 fn show_round<K: ElementKind, S: Sealer>(
     rt: &HostRuntime,
-    sealer: &S,
-    example: &Example,
-    lock: &Lock<'_>,
+    player: &Player<'_, S>,
+    pick: u8,
 ) -> Result<(), Stop> {
-    let pick = example.pick;
-    let Shown { first, answer } = keep::<K, S>(rt, sealer, example, lock)?;
-    println!(rt; "first message {}", Hex(first.as_slice()))?;
-    println!(rt; "answer to pick {pick} {}", Hex(answer.as_slice()))?;
-    let mut work1 = zeros(rt.alloc(), lock.work_length::<K>())?;
-    let mut work2 = zeros(rt.alloc(), lock.work_length::<K>())?;
-    let verdict = verify::<K, S>(
-        sealer,
-        example.lock.as_slice(),
-        first.as_slice(),
-        pick,
-        answer.as_slice(),
-        work1.as_mut_slice(),
-        work2.as_mut_slice(),
-    );
-    println!(rt; "verify {}", Verdict(verdict))?;
+    let mut store = player.store()?;
+    let mut first = player.zeros(player.sizes.first)?;
+    let mut answer = player.zeros(player.sizes.answer)?;
+    let mut keeper = Keeper::new(player.sizes.view, store.as_mut_slice());
+    let round = player.promise::<K>(&mut keeper, first.as_mut_slice())?;
+    println!(rt; "promise round {round}")?;
+    keeper.answer(round, pick, answer.as_mut_slice())?;
+    let (first, answer) = (first.as_slice(), answer.as_slice());
+    println!(rt; "first message {}", hex::encode(rt.alloc(), first)?)?;
+    println!(rt;
+        "answer to pick {pick} {}",
+        hex::encode(rt.alloc(), answer)?
+    )?;
+    let verdict = Verdict(player.verify::<K>(first, pick, answer)?);
+    println!(rt; "verify {verdict}")?;
     Ok(())
 }
 
 // The verifier's word at each pick.
 fn show_picks<K: ElementKind, S: Sealer>(
     rt: &HostRuntime,
-    sealer: &S,
-    lock: &[u8],
-    work: usize,
+    player: &Player<'_, S>,
     messages: &Messages,
 ) -> Result<(), Stop> {
-    for pick in 1..4u8 {
-        let verdict = messages.verified::<K, S>(rt.alloc(), sealer, lock, work, pick)?;
+    for (pick, answer) in PICKS.into_iter().zip(&messages.answers) {
+        let pick = pick.number();
+        let verdict = player.verify::<K>(messages.first.as_slice(), pick, answer.as_slice())?;
         println!(rt; "pick {pick} {}", Verdict(verdict))?;
     }
     Ok(())
@@ -84,39 +62,52 @@ fn show_picks<K: ElementKind, S: Sealer>(
 
 fn show_extracted<K: ElementKind, S: Sealer>(
     rt: &HostRuntime,
-    sealer: &S,
-    lock: &[u8],
-    read: &Lock<'_>,
+    player: &Player<'_, S>,
     messages: &Messages,
 ) -> Result<(), Stop> {
-    let work = read.work_length::<K>();
-    let mut key = zeros(rt.alloc(), read.key_length::<K>())?;
-    let found = messages.extracted::<K, S>(rt.alloc(), sealer, lock, work, key.as_mut_slice())?;
+    let (found, key) = player.extract::<K>(messages.first.as_slice(), &messages.answers)?;
     match found {
-        Ok(Extracted::Key) => println!(rt; "extract key {}", Hex(key.as_slice()))?,
+        Ok(Extracted::Key) => {
+            println!(rt; "extract key {}", hex::encode(rt.alloc(), key.as_slice())?)?
+        }
         Ok(Extracted::Collision { branch, offset }) => {
+            let branch = branch.number();
             println!(rt; "extract two views of branch {branch} with one seal, unlike at {offset}")?
         }
         Err(refused) => {
-            let pick = refused.pick;
-            println!(rt; "extract pick {pick} {}", Refusal(refused.fault))?
+            println!(rt;
+                "extract pick {} {}",
+                Branch::told(refused.pick),
+                refused.fault
+            )?
         }
     }
     Ok(())
 }
 
-pub fn show<K: ElementKind, S: Sealer>(
+pub fn show<'a, K: ElementKind, S: Sealer>(
     rt: &HostRuntime,
-    sealer: &S,
-    example: &Example,
+    sealer: &'a S,
+    example: &'a Example,
 ) -> Result<(), Stop> {
-    let lock = read_lock::<K>(example.lock.as_slice())?;
-    let work = lock.work_length::<K>();
-    show_round::<K, S>(rt, sealer, example, &lock)?;
-    let mut messages = Messages::of::<K, S>(rt.alloc(), sealer, example, &lock)?;
-    show_picks::<K, S>(rt, sealer, example.lock.as_slice(), work, &messages)?;
-    show_extracted::<K, S>(rt, sealer, example.lock.as_slice(), &lock, &messages)?;
-    let claimed = forge::<K, S>(rt.alloc(), sealer, example, &lock, &mut messages)?;
+    let opening = example.opening();
+    let lock = read_lock::<K>(opening.lock)?;
+    let player = Player {
+        heap: rt.alloc(),
+        sealer,
+        opening,
+        sizes: Sizes::of::<K, S>(lock),
+    };
+    show_round::<K, S>(rt, &player, example.pick)?;
+    let messages = Messages::of::<K, S>(&player)?;
+    show_picks::<K, S>(rt, &player, &messages)?;
+    show_extracted::<K, S>(rt, &player, &messages)?;
+    let forged = forge::<K, S>(sealer, lock, messages)?;
+    let claimed = claimed(rt.alloc(), opening.lock)?;
+    let opening = Opening {
+        lock: claimed.as_slice(),
+        ..opening
+    };
     println!(rt; "forged product, target one more")?;
-    show_picks::<K, S>(rt, sealer, claimed.as_slice(), work, &messages)
+    show_picks::<K, S>(rt, &Player { opening, ..player }, &forged)
 }

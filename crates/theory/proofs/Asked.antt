@@ -16,9 +16,8 @@ use Rattle.theory.specs.Messages.{length_of_key, view_bytes, length_of_view, bli
 use Rattle.theory.specs.Runs.{Branch, one, two, three}
 use Rattle.theory.specs.Store.{rounds_in}
 use Rattle.theory.proofs.Asks.{given_tests, parse, parse_call, checks, told, parsed, noted, history, made, Made}
-use Rattle.theory.proofs.Basics.{not_some, inside}
 use Rattle.theory.proofs.Bridges.{tells_by, goes_by}
-use Rattle.faults.proofs.Passed.{check_ok, err_ok}
+use Rattle.faults.proofs.Passed.{check_ok}
 use Rattle.theory.proofs.Checked.{first_none, none_first, lawful_all, all_lawful, unlike_same, same_unlike, both_ok, both_fine, check_fine, group_ok, ok_group}
 use Rattle.theory.proofs.Groups.{counted}
 use Rattle.theory.proofs.Histories.{blank, PromiseView, no_promise, yes_promise, promise_view}
@@ -67,7 +66,7 @@ pub read_sizes : (g : Given) → (parse g).tests ≡ Ok tt → (lock_of g.kind g
 read_sizes g h = go (lock_of g.kind g.lock) refl h
   where
     go : (r : Result (Circuit (List ℕ)) Fault) → lock_of g.kind g.lock ≡ r → given_tests r g ≡ Ok tt → (r ≡ Ok (read_circuit r)) × Sizes g (read_circuit r)
-    go (Err f) e k = err_ok k
+    go (Err f) e k = cc
     go (Ok l) e k = (refl, sizes g l k)
 
 pub blind_32 : (K : Kind) (l : Circuit (List ℕ)) (t : List ℕ) → length t ≡ length_of_tape K l → (i : Branch) → length (blind_in K l t i) ≡ 32
@@ -217,8 +216,8 @@ module _ (long : ℕ) (store : List ℕ) where
   to_made H r p h = go (made long store H r) refl (sym (made_is H r) ∙ h)
     where
       go : (o : Option Given) → made long store H r ≡ o → parsed_some o ≡ Some p → (g : Given) × (made long store H r ≡ Some g) × (parse g ≡ p)
-      go None e k = not_some k
-      go (Some g) e k = (g, e, inside k)
+      go None e k = cc
+      go (Some g) e k = (g, e, cc)
 
   pub each_parsed : (H : List Call) (Q : ℕ → Promise → Type 0) → Made long store H (λ r g. Q r (parse g)) → Each (checks long) n size (parsed H) Q
   each_parsed H Q h r p k = let f = to_made H r p k in subst (Q r) f.2 (h r f.0 f.1)

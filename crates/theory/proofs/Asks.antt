@@ -35,7 +35,7 @@ parse_call (call_promise g) = promise (parse g)
 parse_call (call_answer r e z) = answer r e z
 parse_call (call_drop r) = drop r
 
--- a promise's tests: 1 to 7; 12, 13, 14
+-- a promise's tests: of the lock and the sizes; then of the values
 abbrev pub checks : ℕ → Checks
 checks long = record {
   early = λ p. both p.tests (check (eqb (length_of_view p.kind p.lock) long) (fault Reason.WrongSize 7) (Ok tt));

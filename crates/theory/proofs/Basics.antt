@@ -1,23 +1,6 @@
 -- Small facts on tests, options and lists.
-use Rattle.std.proofs.Common.{◌≡◌, ℕ, Bool, true, false, cond, T, ◌⊎◌, List, [], ◌∷◌, ◌++◌, length, Some, None, Ok, Err, Result, refl, ap₂, inl, inr, arith}
+use Rattle.std.proofs.Common.{◌≡◌, ℕ, Bool, true, false, cond, ◌⊎◌, List, [], ◌∷◌, ◌++◌, length, refl, ap₂, inl, inr}
 use Rattle.std.specs.List.{AllByRecursion}
-use Rattle.theory.proofs.Lists.{zero≢suc, suc≢zero, suc_same}
-
-pub clash : {A : Type 0} {b : Bool} → b ≡ true → b ≡ false → A
-clash p q = let z : ◌≡◌ {A = ℕ} 0 1 = cc in absurd (omega arith)
-
-pub not_some : {A X : Type 0} {p : X} → None ≡ Some p → A
-not_some p = let z : ◌≡◌ {A = ℕ} 0 1 = cc in absurd (omega arith)
-
-pub not_err : {A X Y : Type 0} {p : X} {q : Y} → ◌≡◌ {A = Result X Y} (Ok p) (Err q) → A
-not_err p = let z : ◌≡◌ {A = ℕ} 0 1 = cc in absurd (omega arith)
-
-pub inside : {X : Type 0} {p q : X} → Some p ≡ Some q → p ≡ q
-inside h = cc
-
-pub T_true : (b : Bool) → T b → b ≡ true
-T_true true h = refl
-T_true false h = absurd h
 
 -- a test and what it told
 pub split : (b : Bool) → (b ≡ true) ⊎ (b ≡ false)
@@ -38,10 +21,10 @@ all_right P (x ∷ xs) ys h = all_right P xs ys h.1
 
 pub append_inj : (a b c d : List ℕ) → length a ≡ length b → a ++ c ≡ b ++ d → (a ≡ b) × (c ≡ d)
 append_inj [] [] c d h k = (refl, k)
-append_inj [] (y ∷ b) c d h k = zero≢suc h
-append_inj (x ∷ a) [] c d h k = suc≢zero h
+append_inj [] (y ∷ b) c d h k = cc
+append_inj (x ∷ a) [] c d h k = cc
 append_inj (x ∷ a) (y ∷ b) c d h k =
     let p : x ≡ y = cc in
     let q : a ++ c ≡ b ++ d = cc in
-    let r = append_inj a b c d (suc_same h) q in
+    let r = append_inj a b c d (cc) q in
     (ap₂ {C = List ℕ} (λ z zs. z ∷ zs) p r.0, r.1)

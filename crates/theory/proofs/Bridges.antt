@@ -1,5 +1,5 @@
 -- What the calls on bytes give back and leave is what the parsed ones say.
-use Rattle.std.proofs.Common.{◌≡◌, ℕ, suc, ◌+◌, ◌*◌, Bool, true, false, eqb, ltb, List, length, Some, None, Ok, Err, Option, Result, refl}
+use Rattle.std.proofs.Common.{◌≡◌, ℕ, suc, ◌+◌, ◌*◌, Bool, true, false, eqb, ltb, List, length, Some, None, Ok, Err, Option, Result, refl, ok_or}
 use Rattle.faults.specs.declared.Fault.{Fault}
 use Rattle.faults.specs.declared.Reason.{Reason}
 use Rattle.faults.specs.Numbers.{fault}
@@ -10,7 +10,6 @@ use Rattle.theory.specs.declared.RoundState.{RoundState}
 use Rattle.theory.specs.Runs.{Branch}
 use Rattle.theory.specs.Messages.{branch_of, view_bytes, length_of_view, key_of, tape_of, blind_in}
 use Rattle.theory.specs.Tests.{Verdict, both, left}
-use Rattle.theory.specs.Verdict.{branch_or}
 use Rattle.theory.specs.Extraction.{read_circuit}
 use Rattle.theory.specs.Keeper.{Keeper, Given, promise_sizes, key_right, tape_right, kept, state_of, open_by, ended}
 use Rattle.theory.specs.History.{Call, call_promise, call_answer, call_drop, promise_told, drop_told, answer_from, tells, goes}
@@ -79,7 +78,7 @@ module _ (k : Keeper) (g : Given) where
 
 module _ (k : Keeper) (r e : ℕ) where
   abbrev branch_by : Option RoundState → Option Branch → Bool → Result Branch Fault
-  branch_by o b s = and_then (open_by r o) (λ _. and_then (branch_or b (fault Reason.WrongPick e)) (λ b. check s (fault Reason.WrongSize 1) (Ok b)))
+  branch_by o b s = and_then (open_by r o) (λ _. and_then (ok_or b (fault Reason.WrongPick e)) (λ b. check s (fault Reason.WrongSize 1) (Ok b)))
 
   answer_by : (o : Option RoundState) (b : Option Branch) (s : Bool) → answer_from k r (branch_by o b s) ≡ told (answers k (spent_of o) b s r e)
   answer_by None b s = refl

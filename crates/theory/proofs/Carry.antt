@@ -5,7 +5,6 @@ use Rattle.locks.specs.Circuit.{Gate, ac, mc, ad, mu, Output, Circuit, mus}
 use Rattle.theory.specs.Algebra.{Ops}
 use Rattle.theory.specs.Branches.{Tape, shares_on, masks_on, shares_of, view, out_shares}
 use Rattle.theory.specs.Runs.{Branch, one, two, three, next, View, tail, rest, front, read, head, sum, less, sum_of, value, plain, at_outputs, targets, share, right, plus_constant, local, step, rerun, due, honest}
-use Rattle.theory.proofs.Lists.{zero≢suc, suc≢zero}
 
 pub record Hom {E F : Type 0} (O : Ops E) (Q : Ops F) (f : E → F) : Type 0 where
   pub zer_h : f O.zer ≡ Q.zer
@@ -76,8 +75,8 @@ module _ {E F : Type 0} (f : E → F) where
   module _ (inj : (x y : E) → f x ≡ f y → x ≡ y) where
     pub map_inj : (xs ys : List E) → map f xs ≡ map f ys → xs ≡ ys
     map_inj [] [] h = refl
-    map_inj [] (y ∷ ys) h = zero≢suc (ap length h)
-    map_inj (x ∷ xs) [] h = suc≢zero (ap length h)
+    map_inj [] (y ∷ ys) h = cc
+    map_inj (x ∷ xs) [] h = cc
     map_inj (x ∷ xs) (y ∷ ys) h =
         let p : f x ≡ f y = cc in
         let q : map f xs ≡ map f ys = cc in

@@ -1,14 +1,12 @@
 -- Tests in order, and what each tells.
-use Rattle.std.proofs.Common.{◌≡◌, ℕ, suc, Bool, true, false, cond, eqb, List, [], ◌∷◌, length, get_or, Some, None, Ok, Err, Option, Result, sym, refl, ap, ◌∙◌, subst, ap₂, arith}
-use lib.Dec.{eqb_refl}
-use Rattle.std.proofs.lemmas.Bool.{eqb-true, eqb-false}
+use Rattle.std.proofs.Common.{◌≡◌, ℕ, suc, Bool, true, false, cond, eqb, List, [], ◌∷◌, length, get_or, Some, None, Ok, Err, Option, Result, sym, refl, ap, ◌∙◌, ap₂, arith}
+use Rattle.std.proofs.lemmas.Bool.Decides.{Decides-eqb}
+use Rattle.std.proofs.lemmas.Slice.Eq.{bytes_eq-Decides}
 use Rattle.std.specs.List.{AllByRecursion}
 use Rattle.faults.specs.declared.Fault.{Fault}
 use Rattle.faults.specs.declared.Reason.{Reason}
 use Rattle.faults.specs.Outcomes.{check}
-use Rattle.faults.proofs.Passed.{err_ok}
 use Rattle.kinds.specs.Kind.{Kind, Lawful, same_row}
-use Rattle.kinds.proofs.Same.{same_refl, same_true}
 use Rattle.locks.specs.Circuit.{Gate, ac, mc, ad, mu, mus}
 use Rattle.theory.specs.Algebra.{ops_of}
 use Rattle.theory.specs.Runs.{Branch, View, tail, head, right, step, due}
@@ -16,12 +14,11 @@ use Rattle.theory.specs.Tests.{Verdict, both, first_at, later, unlawful, lawful_
 use Rattle.theory.specs.Verdict.{wrong_product}
 use Rattle.theory.specs.Soundness.{FirstUnlike}
 use Rattle.theory.specs.Rules.{product_wires}
-use Rattle.theory.proofs.Basics.{not_some, T_true}
-use Rattle.theory.proofs.Lists.{zero≢suc, suc≢zero, suc_same}
+use Rattle.theory.proofs.Unlikes.{later_none, none_same, same_none, some_first}
 
 pub both_ok : (a b : Verdict) → both a b ≡ Ok tt → (a ≡ Ok tt) × (b ≡ Ok tt)
 both_ok (Ok x) b h = (refl, h)
-both_ok (Err f) b h = err_ok h
+both_ok (Err f) b h = cc
 
 pub both_fine : {a b : Verdict} → a ≡ Ok tt → b ≡ Ok tt → both a b ≡ Ok tt
 both_fine p q = ap₂ both p q
@@ -31,14 +28,10 @@ check_fine f p q = ap₂ (λ c s. check c f s) p q
 
 pub first_none : (o : Option ℕ) (f : ℕ → Fault) → first_at o f ≡ Ok tt → o ≡ None
 first_none None f h = refl
-first_none (Some i) f h = err_ok h
+first_none (Some i) f h = cc
 
 pub none_first : {o : Option ℕ} (f : ℕ → Fault) → o ≡ None → first_at o f ≡ Ok tt
 none_first f h = ap (λ x. first_at x f) h
-
-pub later_none : (o : Option ℕ) → later o ≡ None → o ≡ None
-later_none None h = refl
-later_none (Some i) h = not_some (sym h)
 
 pub lawful_all : (K : Kind) (xs : List (List ℕ)) → unlawful K xs ≡ None → AllByRecursion (Lawful K) xs
 lawful_all K [] h = tt
@@ -46,7 +39,7 @@ lawful_all K (x ∷ xs) h = go (lawful_all K xs) (K.lawful x) refl h
   where
     go : (unlawful K xs ≡ None → AllByRecursion (Lawful K) xs) → (b : Bool) → K.lawful x ≡ b → cond b (later (unlawful K xs)) (Some 0) ≡ None → Lawful K x × AllByRecursion (Lawful K) xs
     go ih true e k = (e, ih (later_none _ k))
-    go ih false e k = not_some (sym k)
+    go ih false e k = cc
 
 pub all_lawful : (K : Kind) (xs : List (List ℕ)) → AllByRecursion (Lawful K) xs → unlawful K xs ≡ None
 all_lawful K [] h = refl
@@ -59,42 +52,17 @@ group_ok K r at es h = lawful_all K es (first_none _ _ h)
 pub ok_group : (K : Kind) (r : Reason) (at : ℕ) (es : List (List ℕ)) → AllByRecursion (Lawful K) es → lawful_at K r at es ≡ Ok tt
 ok_group K r at es h = none_first _ (all_lawful K es h)
 
-pub differ_same : (xs ys : List ℕ) → differ xs ys ≡ None → xs ≡ ys
-differ_same [] [] h = refl
-differ_same [] (y ∷ ys) h = not_some (sym h)
-differ_same (x ∷ xs) [] h = not_some (sym h)
-differ_same (x ∷ xs) (y ∷ ys) h = go (differ_same xs ys) (eqb x y) refl h
-  where
-    go : (differ xs ys ≡ None → xs ≡ ys) → (b : Bool) → eqb x y ≡ b → cond b (later (differ xs ys)) (Some 0) ≡ None → x ∷ xs ≡ y ∷ ys
-    go ih true e k = ap₂ {C = List ℕ} (λ z zs. z ∷ zs) (eqb-true x y e) (ih (later_none _ k))
-    go ih false e k = not_some (sym k)
-
-differ_refl : (xs : List ℕ) → differ xs xs ≡ None
-differ_refl [] = refl
-differ_refl (x ∷ xs) = ap₂ (λ b o. cond b (later o) (Some 0)) (T_true _ (eqb_refl x)) (differ_refl xs)
-
-pub same_differ : {xs ys : List ℕ} → xs ≡ ys → differ xs ys ≡ None
-same_differ {xs} {ys} h = subst (λ z. differ xs z ≡ None) h (differ_refl xs)
-
 pub same_bytes : {xs ys : List ℕ} → xs ≡ ys → same_row xs ys ≡ true
-same_bytes {xs} {ys} h = subst (λ z. same_row xs z ≡ true) h (same_refl xs)
+same_bytes {xs} {ys} h = (bytes_eq-Decides xs ys).1 h
+
+pub differ_same : (xs ys : List ℕ) → differ xs ys ≡ None → xs ≡ ys
+differ_same = none_same eqb Decides-eqb
 
 pub unlike_same : (xs ys : List (List ℕ)) → unlike xs ys ≡ None → xs ≡ ys
-unlike_same [] [] h = refl
-unlike_same [] (y ∷ ys) h = not_some (sym h)
-unlike_same (x ∷ xs) [] h = not_some (sym h)
-unlike_same (x ∷ xs) (y ∷ ys) h = go (unlike_same xs ys) (same_row x y) refl h
-  where
-    go : (unlike xs ys ≡ None → xs ≡ ys) → (b : Bool) → same_row x y ≡ b → cond b (later (unlike xs ys)) (Some 0) ≡ None → x ∷ xs ≡ y ∷ ys
-    go ih true e k = ap₂ {C = List (List ℕ)} (λ z zs. z ∷ zs) (same_true x y e) (ih (later_none _ k))
-    go ih false e k = not_some (sym k)
-
-unlike_refl : (xs : List (List ℕ)) → unlike xs xs ≡ None
-unlike_refl [] = refl
-unlike_refl (x ∷ xs) = ap₂ (λ b o. cond b (later o) (Some 0)) (same_bytes {xs = x} refl) (unlike_refl xs)
+unlike_same = none_same same_row bytes_eq-Decides
 
 pub same_unlike : {xs ys : List (List ℕ)} → xs ≡ ys → unlike xs ys ≡ None
-same_unlike {xs} {ys} h = subst (λ z. unlike xs z ≡ None) h (unlike_refl xs)
+same_unlike = same_none same_row bytes_eq-Decides
 
 abbrev pub wire_of : List ℕ → Option ℕ → Option ℕ
 wire_of ws None = None
@@ -107,7 +75,7 @@ wrong_is K i n own [] A B h = go A.products refl
   where
     go : (ps : List (List ℕ)) → A.products ≡ ps → None ≡ wire_of [] (unlike A.products [])
     go [] e = ap (λ ps. wire_of [] (unlike ps [])) (sym e)
-    go (p ∷ ps) e = suc≢zero (sym (ap length e) ∙ h)
+    go (p ∷ ps) e = cc (sym (ap length e) ∙ h)
 wrong_is K i n own (ac a c ∷ gs) A B h = wrong_is K i n (suc own) gs (step (ops_of K) i (ac a c) A) (step (ops_of K) n (ac a c) B) h
 wrong_is K i n own (mc a c ∷ gs) A B h = wrong_is K i n (suc own) gs (step (ops_of K) i (mc a c) A) (step (ops_of K) n (mc a c) B) h
 wrong_is K i n own (ad a b ∷ gs) A B h = wrong_is K i n (suc own) gs (step (ops_of K) i (ad a b) A) (step (ops_of K) n (ad a b) B) h
@@ -131,15 +99,15 @@ wrong_is K i n own (mu a b ∷ gs) A B h = go (wrong_is K i n (suc own) gs (step
     on false u k = refl
 
     go : (length (tail A.products) ≡ mus gs → W ≡ wire_of ws (unlike (tail A.products) D)) → (ps : List (List ℕ)) → A.products ≡ ps → cond (same_row (head (ops_of K) A.products) R) W (Some own) ≡ wire_of (own ∷ ws) (unlike A.products (R ∷ D))
-    go ih [] e = zero≢suc (sym (ap length e) ∙ h)
+    go ih [] e = cc (sym (ap length e) ∙ h)
     go ih (p ∷ ps) e =
-        let size : length (tail A.products) ≡ mus gs = ap (λ x. length (tail x)) e ∙ suc_same (sym (ap length e) ∙ h) in
+        let size : length (tail A.products) ≡ mus gs = ap (λ x. length (tail x)) e ∙ (cc (sym (ap length e) ∙ h)) in
         let k : W ≡ wire_of ws (unlike ps D) = ih size ∙ ap (λ x. wire_of ws (unlike (tail x) D)) e in
         ap (λ x. cond (same_row (head (ops_of K) x) R) W (Some own)) e ∙ on (same_row p R) (unlike ps D) k ∙ ap (λ x. wire_of (own ∷ ws) (unlike x (R ∷ D))) (sym e)
 
 wire_none : (ws : List ℕ) (o : Option ℕ) → wire_of ws o ≡ None → o ≡ None
 wire_none ws None h = refl
-wire_none ws (Some j) h = not_some (sym h)
+wire_none ws (Some j) h = cc
 
 pub products_right : (K : Kind) (i n : Branch) (own : ℕ) (gs : List (Gate (List ℕ))) (A B : View (List ℕ)) → length A.products ≡ mus gs
     → wrong_product K i n own gs A B ≡ None → A.products ≡ due (ops_of K) i n gs A B
@@ -151,17 +119,4 @@ right_products K i n own gs A B h k = wrong_is K i n own gs A B h ∙ ap (wire_o
 
 -- the first offset at which two lists of one length differ
 pub differ_first : (xs ys : List ℕ) (o : ℕ) → length xs ≡ length ys → differ xs ys ≡ Some o → FirstUnlike xs ys o
-differ_first [] [] o l h = not_some h
-differ_first [] (y ∷ ys) o l h = zero≢suc l
-differ_first (x ∷ xs) [] o l h = suc≢zero l
-differ_first (x ∷ xs) (y ∷ ys) o l h = go (λ i. differ_first xs ys i (suc_same l)) (eqb x y) refl (differ xs ys) refl h
-  where
-    go : ((i : ℕ) → differ xs ys ≡ Some i → FirstUnlike xs ys i) → (b : Bool) → eqb x y ≡ b → (d : Option ℕ) → differ xs ys ≡ d → cond b (later d) (Some 0) ≡ Some o → FirstUnlike (x ∷ xs) (y ∷ ys) o
-    go ih true e None d k = not_some k
-    go ih true e (Some i) d k =
-        let r = ih i d in
-        let at : suc i ≡ o = cc in
-        subst (FirstUnlike (x ∷ xs) (y ∷ ys)) at (omega (arith, r.0), omega (arith, r.1), ap₂ {C = List ℕ} (λ z zs. z ∷ zs) (eqb-true x y e) r.2, r.3)
-    go ih false e d dd k =
-        let at : 0 ≡ o = cc in
-        subst (FirstUnlike (x ∷ xs) (y ∷ ys)) at (omega arith, omega arith, refl, eqb-false x y e)
+differ_first xs ys o l h = let r = some_first eqb Decides-eqb 0 xs ys o l h in (r.0, omega (arith, r.0), r.1, r.2)

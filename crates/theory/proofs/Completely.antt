@@ -19,7 +19,6 @@ use Rattle.theory.specs.Verdict.{Passes, verified}
 use Rattle.theory.specs.declared.RoundState.{RoundState}
 use Rattle.theory.proofs.Asked.{sizes_fine, parse_stands, late_fine, views, views_long, run_is, tells_is, all_stand, long_fit}
 use Rattle.theory.proofs.Asks.{given_tests, parse, parse_call, checks, told, parsed, history, Made, first_of}
-use Rattle.theory.proofs.Basics.{not_some, inside}
 use Rattle.theory.proofs.Checked.{both_fine, check_fine}
 use Rattle.theory.proofs.Extractor.{answers_pass}
 use Rattle.theory.proofs.Histories.{blank, earlier, newest}
@@ -30,8 +29,8 @@ use Rattle.theory.proofs.Stores.{Agrees, same, agrees, fate_by}
 use Rattle.theory.proofs.Verdicts.{accepts, branch_pick}
 
 held_open : (w : Option Promise) (g : Bool) → fate_by w g ≡ Some false → g ≡ false
-held_open None g h = not_some h
-held_open (Some p) g h = inside h
+held_open None g h = cc
+held_open (Some p) g h = cc
 
 module _ (long : ℕ) (g : Given) (o : Honest long g) where
   abbrev K : Kind

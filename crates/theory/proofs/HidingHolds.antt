@@ -2,8 +2,7 @@
 use Rattle.std.proofs.Common.{◌≡◌, ℕ, zero, suc, ◌+◌, ◌*◌, ◌<◌, ◌≤◌, Bool, true, false, cond, eqb, List, [], ◌∷◌, ◌++◌, map, length, take, drop as skip, Some, None, Ok, Option, sym, refl, ap, ◌∙◌, subst, ap₂, subst₂, arith}
 use mathlib.Core.Path.{fun_ext}
 use lib.ListN.{length-map}
-use lib.Dec.{eqb_refl}
-use Rattle.std.proofs.lemmas.Bool.{eqb-true}
+use Rattle.std.proofs.lemmas.Bool.{eqb-true, eq-eqb}
 use Rattle.std.specs.List.{AllByRecursion}
 use Rattle.kinds.specs.Kind.{Kind, Lawful, Laws, Bytes}
 use Rattle.locks.specs.Circuit.{Circuit, mus}
@@ -20,7 +19,7 @@ use Rattle.theory.specs.Soundness.{KeyFits}
 use Rattle.theory.specs.Store.{rounds_in}
 use Rattle.theory.proofs.Asked.{sizes_fine, read_sizes, blind_32, tests, views, views_long, all_told_is, of_made, to_made, each_parsed, all_stand, long_fit, tells_is}
 use Rattle.theory.proofs.Asks.{given_tests, parse, parse_call, checks, told, parsed, noted, history, outcome, made, Made, other_call, replayed, picks, closed_in, first_of}
-use Rattle.theory.proofs.Basics.{inside, T_true, append_inj}
+use Rattle.theory.proofs.Basics.{append_inj}
 use Rattle.theory.proofs.Checked.{both_ok}
 use Rattle.theory.proofs.Claims.{SameBut}
 use Rattle.theory.proofs.Groups.{all_append}
@@ -80,7 +79,7 @@ module _ (long : ℕ) (store : List ℕ) where
       → made long store (call_promise g ∷ H) (suc (length (history long store H).made)) ≡ Some g
   made_here g H m e =
       let R = suc (length (history long store H).made) in
-      ap (λ s. noted s g R (made long store H R)) e ∙ ap (λ b. cond b (Some g) (made long store H R)) (T_true _ (eqb_refl R))
+      ap (λ s. noted s g R (made long store H R)) e ∙ ap (λ b. cond b (Some g) (made long store H R)) (eq-eqb R R refl)
 
   made_later : (c : Call) (H : List Call) (r : ℕ) (g : Given) → made long store H r ≡ Some g → made long store (c ∷ H) r ≡ Some g
   made_later (call_promise x) H r g h = go (promise_view (checks long) n size (λ _. []) (λ _. blank) (history long store H) (parse x))
@@ -229,7 +228,7 @@ module _ (long : ℕ) (store : List ℕ) where
               let a' : told_round r (first_of m) ≡ told_round r₀ x = a in
               let b' : told_round r (first_of m') ≡ told_round r₀ x' = sym (ap told k') ∙ b in
               let rs : r₀ ≡ r = sym (round_number a') in
-              let gs : g₀ ≡ g = inside (sym c ∙ ap (made long store H) rs ∙ e) in
+              let gs : g₀ ≡ g = cc (sym c ∙ ap (made long store H) rs ∙ e) in
               subst₂ (λ y y'. Outside (seal_at g.kind (circuit_in g) g.sealing.size (cl r)) g.sealing.size y y') (sym (round_bytes a')) (sym (round_bytes b'))
               (subst (λ w. Outside (seal_at w.kind (circuit_in w) w.sealing.size (cl r)) w.sealing.size x x') gs
               (subst (λ w. Outside (seal_at g₀.kind (circuit_in g₀) g₀.sealing.size (cl w)) g₀.sealing.size x x') rs o))
@@ -251,7 +250,7 @@ module _ (long : ℕ) (store : List ℕ) where
         where
           again_bytes : (b : Branch) (x y x' y' : List ℕ) (s' : Shown) → s' ≡ answered b x' y' → LikeTold (made long store H) (closed_in long store H) (told_answer (answer_bytes b x y)) (told s') → told_answer (answer_bytes b x' y') ≡ told_answer (answer_bytes b x y)
           again_bytes b x y x' y' s' k (equal_told q) = sym (ap told k) ∙ q
-          again_bytes b x y x' y' s' k (but_closed r g w w' a c d o) = let z : ◌≡◌ {A = ℕ} 0 1 = cc in absurd (omega arith)
+          again_bytes b x y x' y' s' k (but_closed r g w w' a c d o) = cc
 
           tails : (b : Branch) (x y x' y' : List ℕ) → told_answer (answer_bytes b x' y') ≡ told_answer (answer_bytes b x y) → x' ++ y' ≡ x ++ y
           tails b x y x' y' e = cc

@@ -1,5 +1,5 @@
 -- Hiding, Completeness and what a keeper remembers, by what the keeper itself told.
-use Rattle.std.proofs.Common.{◌≡◌, ℕ, suc, ◌+◌, ◌*◌, ◌<◌, Bool, true, false, cond, eqb, List, [], ◌∷◌, ◌++◌, length, Some, Ok, Err, Option, Result, sym, refl, ap, ◌∙◌, subst, ap₂, arith}
+use Rattle.std.proofs.Common.{◌≡◌, ℕ, suc, ◌+◌, ◌*◌, ◌<◌, Bool, true, false, cond, eqb, List, [], ◌∷◌, ◌++◌, length, Some, Ok, Err, Option, Result, sym, refl, ap, ◌∙◌, subst, ap₂}
 use mathlib.Core.Path.{fun_ext}
 use Rattle.faults.specs.declared.Fault.{Fault}
 use Rattle.kinds.specs.Kind.{Laws}
@@ -46,27 +46,27 @@ closed_opens (let_go ∷ es) = closed_opens es
 
 -- an accepted answer opens what it shows
 same_answer : (b c : Branch) (x y x' y' : List ℕ) → told_answer (answer_bytes b x y) ≡ told_answer (answer_bytes c x' y') → b ≡ c
-same_answer b c x y x' y' h = same_pick b c (cc)
+same_answer b c x y x' y' h = same_pick b c cc
 
 answer_opens : (k : Keeper) (q : ℕ) (B : Result Branch Fault) (s : Shown) → answer_from k q B ≡ told s → (es : List End)
     → opens_of (left B (λ b. opened b ∷ es) es) ≡ opens s (opens_of es)
-answer_opens k q (Ok b) (refused f) h es = let z : ◌≡◌ {A = ℕ} 0 1 = cc in absurd (omega arith)
-answer_opens k q (Ok b) (promised r m) h es = let z : ◌≡◌ {A = ℕ} 0 1 = cc in absurd (omega arith)
+answer_opens k q (Ok b) (refused f) h es = cc
+answer_opens k q (Ok b) (promised r m) h es = cc
 answer_opens k q (Ok b) (answered c x y) h es = ap {B = List Branch} (λ z. z ∷ opens_of es) (same_answer b c (kept_view k q b) (kept_view k q (next b)) x y h)
-answer_opens k q (Ok b) dropped h es = let z : ◌≡◌ {A = ℕ} 0 1 = cc in absurd (omega arith)
+answer_opens k q (Ok b) dropped h es = cc
 answer_opens k q (Err f) (refused e) h es = refl
 answer_opens k q (Err f) (promised r m) h es = refl
-answer_opens k q (Err f) (answered c x y) h es = let z : ◌≡◌ {A = ℕ} 0 1 = cc in absurd (omega arith)
+answer_opens k q (Err f) (answered c x y) h es = cc
 answer_opens k q (Err f) dropped h es = refl
 
 drop_opens : (R : Verdict) (s : Shown) → drop_told R ≡ told s → (es : List End) → opens_of (left R (λ _. let_go ∷ es) es) ≡ opens s (opens_of es)
 drop_opens (Ok u) (refused f) h es = refl
 drop_opens (Ok u) (promised r m) h es = refl
-drop_opens (Ok u) (answered c x y) h es = let z : ◌≡◌ {A = ℕ} 0 1 = cc in absurd (omega arith)
+drop_opens (Ok u) (answered c x y) h es = cc
 drop_opens (Ok u) dropped h es = refl
 drop_opens (Err f) (refused e) h es = refl
 drop_opens (Err f) (promised r m) h es = refl
-drop_opens (Err f) (answered c x y) h es = let z : ◌≡◌ {A = ℕ} 0 1 = cc in absurd (omega arith)
+drop_opens (Err f) (answered c x y) h es = cc
 drop_opens (Err f) dropped h es = refl
 
 opens_cond : (x : Bool) (es fs : List End) (bs : List Branch) → opens_of es ≡ bs → opens_of (cond x es fs) ≡ cond x bs (opens_of fs)

@@ -1,6 +1,6 @@
 -- A history and its recast: the same calls are accepted, and the same is shown.
 use Rattle.std.proofs.Common.{◌≡◌, ℕ, suc, ◌≤◌, Bool, true, false, cond, eqb, ltb, ◌⊎◌, List, [], ◌∷◌, length, Some, None, Ok, Err, Option, sym, refl, ap, ◌∙◌, subst, ap₂, inl, inr, arith, eqb-true}
-use lib.Dec.{eqb_refl}
+use Rattle.std.proofs.lemmas.Bool.{eq-eqb}
 use Rattle.std.specs.List.{AllByRecursion}
 use Rattle.faults.specs.declared.Fault.{Fault}
 use Rattle.kinds.specs.Kind.{Lawful, Laws}
@@ -10,7 +10,7 @@ use Rattle.theory.specs.Lawfulness.{CircuitLawful, TapeLawful, ViewLawful}
 use Rattle.theory.specs.Messages.{view_bytes, branch_of}
 use Rattle.theory.specs.Runs.{Branch, one, next, Fits}
 use Rattle.theory.specs.Tests.{Verdict}
-use Rattle.theory.proofs.Basics.{clash, not_some, inside, T_true, either_way}
+use Rattle.theory.proofs.Basics.{either_way}
 use Rattle.theory.proofs.Claims.{SameBut, Alike}
 use Rattle.theory.proofs.Lifted.{complete_on, hides_on}
 use Rattle.theory.proofs.Parts.{same_views}
@@ -18,18 +18,18 @@ use Rattle.theory.proofs.Pasts.{Promise, Checks, Move, promise, answer, drop, Me
 use Rattle.theory.proofs.Rounds.{not_closed}
 
 pub round_here : (p : Promise) (ps : List Promise) → round (p ∷ ps) (suc (length ps)) ≡ Some p
-round_here p ps = ap (λ b. cond b (Some p) (round ps (suc (length ps)))) (T_true _ (eqb_refl (suc (length ps))))
+round_here p ps = ap (λ b. cond b (Some p) (round ps (suc (length ps)))) (eq-eqb (suc (length ps)) _ refl)
 
 -- the round is the latest, or an earlier one
 pub round_cases : (p : Promise) (ps : List Promise) (r : ℕ) (q : Promise) → round (p ∷ ps) r ≡ Some q → ((r ≡ suc (length ps)) × (p ≡ q)) ⊎ (round ps r ≡ Some q)
 round_cases p ps r q h = go (eqb r (suc (length ps))) refl h
   where
     go : (b : Bool) → eqb r (suc (length ps)) ≡ b → cond b (Some p) (round ps r) ≡ Some q → ((r ≡ suc (length ps)) × (p ≡ q)) ⊎ (round ps r ≡ Some q)
-    go true e k = inl (eqb-true _ _ e, inside k)
+    go true e k = inl (eqb-true _ _ e, cc)
     go false e k = inr k
 
 pub round_below : (ps : List Promise) (r : ℕ) (q : Promise) → round ps r ≡ Some q → r ≤ length ps
-round_below [] r q h = not_some h
+round_below [] r q h = cc
 round_below (p ∷ ps) r q h = elim (round_cases p ps r q h) [ inl k ↦ omega (arith, k.0) | inr k ↦ omega (arith, round_below ps r q k) ]
 
 pub round_later : (p : Promise) (ps : List Promise) (r : ℕ) (q : Promise) → round ps r ≡ Some q → round (p ∷ ps) r ≡ Some q
@@ -63,7 +63,7 @@ gone_step true dropped o g h b bs k = refl
 
 module _ (ck : Checks) (n size : ℕ) where
   gone_opened : (h : List Move) (r : ℕ) (b : Branch) (bs : List Branch) → (past ck n size h).opened r ≡ b ∷ bs → (past ck n size h).gone r ≡ true
-  gone_opened [] r b bs k = let z : ◌≡◌ {A = ℕ} 0 1 = cc in absurd (omega arith)
+  gone_opened [] r b bs k = cc
   gone_opened (promise p ∷ h) r b bs k = gone_opened h r b bs k
   gone_opened (answer q e z ∷ h) r b bs k = gone_step (eqb r q) (shows ck n size (past ck n size h) (answer q e z)) _ _ (gone_opened h r) b bs k
   gone_opened (drop q ∷ h) r b bs k = gone_step (eqb r q) (shows ck n size (past ck n size h) (drop q)) _ _ (gone_opened h r) b bs k
@@ -204,7 +204,7 @@ module _ (ck : Checks) (n size : ℕ) where
         ]
       where
         go : (b : Branch) (x : Bool) → eqb q r ≡ x → P.gone r ≡ false → cond x (b ∷ P.opened q) (P.opened q) ≡ P.opened q
-        go b true t free = clash g (ap P.gone (eqb-true _ _ t) ∙ free)
+        go b true t free = cc (ap P.gone (eqb-true _ _ t) ∙ free)
         go b false t free = refl
 
     abbrev pub PassesAgain : ℕ → Promise → Type 0
@@ -256,8 +256,8 @@ module _ (ck : Checks) (n size : ℕ) where
         at = sym (round_redos (Pa h).made r) ∙ ap (λ P. round P.made r) (sym (past_recast h ready)) ∙ k
 
         go : (w : Option Promise) → round (Pa h).made r ≡ w → Q q
-        go None e = not_some (ap (opt (redo keys tapes r)) (sym e) ∙ at)
-        go (Some p) e = subst Q (inside (ap (opt (redo keys tapes r)) (sym e) ∙ at)) (ks r p e)
+        go None e = cc (ap (opt (redo keys tapes r)) (sym e) ∙ at)
+        go (Some p) e = subst Q (cc (ap (opt (redo keys tapes r)) (sym e) ∙ at)) (ks r p e)
 
     abbrev Sames : (ℕ → Branch) → List Move → Type 0
     Sames cl h = Ea h (λ r p. Same (cl r) (message p) (message (redo keys tapes r p)))
@@ -274,13 +274,13 @@ module _ (ck : Checks) (n size : ℕ) where
     -- the answer just accepted is the only one
     opened_now : (h : List Move) (r e z : ℕ) (b : Branch) (x y : List ℕ) → S (Pa h) (answer r e z) ≡ answered b x y → (Pa h).gone r ≡ false → (Pa (answer r e z ∷ h)).opened r ≡ b ∷ []
     opened_now h r e z b x y k free =
-        ap (λ t. cond t (opens (S (Pa h) (answer r e z)) ((Pa h).opened r)) ((Pa h).opened r)) (T_true _ (eqb_refl r))
+        ap (λ t. cond t (opens (S (Pa h) (answer r e z)) ((Pa h).opened r)) ((Pa h).opened r)) (eq-eqb r r refl)
         ∙ ap (λ s. opens s ((Pa h).opened r)) k
         ∙ ap {B = List Branch} (λ bs. b ∷ bs) (none_yet ((Pa h).opened r) refl)
       where
         none_yet : (bs : List Branch) → (Pa h).opened r ≡ bs → bs ≡ []
         none_yet [] q = refl
-        none_yet (c ∷ bs) q = clash (gone_opened h r c bs q) free
+        none_yet (c ∷ bs) q = cc (gone_opened h r c bs q)
 
     like : (cl : ℕ → Branch) (c : Move) (h : List Move) → Ready (c ∷ h) → Sames cl (c ∷ h) → Opens (c ∷ h)
         → Like cl (S (Pa h) c) (S (redone (Pa h)) (other keys tapes c (S (Pa h) c)))
@@ -325,7 +325,7 @@ module _ (ck : Checks) (n size : ℕ) where
         let p : x' ≡ x = cc in
         let q : y' ≡ y = cc in
         (p, q)
-    like_answer cl b x y x' y' s s' k k' (but_seal r₀ m₀ m₀' e e' same) = let z : ◌≡◌ {A = ℕ} 0 1 = cc in absurd (omega arith)
+    like_answer cl b x y x' y' s s' k k' (but_seal r₀ m₀ m₀' e e' same) = cc
 
     record Fresh (P : Past) (r e z q : ℕ) (b : Branch) : Type 0 where
       at : q ≡ r
@@ -361,7 +361,7 @@ module _ (ck : Checks) (n size : ℕ) where
         ]
 
     opened_promised : (h : List Move) (q : ℕ) (b : Branch) (bs : List Branch) → (Pa h).opened q ≡ b ∷ bs → (p : Promise) × (round (Pa h).made q ≡ Some p)
-    opened_promised [] q b bs t = let z : ◌≡◌ {A = ℕ} 0 1 = cc in absurd (omega arith)
+    opened_promised [] q b bs t = cc
     opened_promised (promise p ∷ h) q b bs t = let k = opened_promised h q b bs t in (k.0, earlier (promise p) h q k.0 k.1)
     opened_promised (answer r e z ∷ h) q b bs t =
         elim (answer_cases (Pa h) r e z q b bs t) [
@@ -371,7 +371,7 @@ module _ (ck : Checks) (n size : ℕ) where
     opened_promised (drop r ∷ h) q b bs t = opened_promised h q b bs (sym (drop_opens (Pa h) r q) ∙ t)
 
     once_only : (h : List Move) (q : ℕ) (b : Branch) (bs : List Branch) → (Pa h).opened q ≡ b ∷ bs → (Pa h).opened q ≡ b ∷ []
-    once_only [] q b bs t = let z : ◌≡◌ {A = ℕ} 0 1 = cc in absurd (omega arith)
+    once_only [] q b bs t = cc
     once_only (promise p ∷ h) q b bs t = once_only h q b bs t
     once_only (answer r e z ∷ h) q b bs t =
         elim (answer_cases (Pa h) r e z q b bs t) [
@@ -416,12 +416,12 @@ module _ (ck : Checks) (n size : ℕ) where
         go : (q : ℕ) (p : Promise) → round (Pa h).made q ≡ Some p → (b : Branch) → ((Pa h).opened q ≡ b ∷ []) ⊎ Fresh (Pa h) r e z q b → ViewsSame q p b
         go q p found b (inl k) = o q p found b k
         go q p found b (inr f) =
-            let who : f.who ≡ p = inside (sym f.found ∙ ap (round (Pa h).made) (sym f.at) ∙ found) in
+            let who : f.who ≡ p = cc (sym f.found ∙ ap (round (Pa h).made) (sym f.at) ∙ found) in
             subst (λ x. ViewsSame q x b) who (subst (λ x. ViewsSame x f.who b) (sym f.at) (like_answer cl b _ _ _ _ _ _ f.says f.says' l))
     back_now cl (drop r) h ready l sames o = (sames, λ q p found b w. o q p found b (sym (drop_opens (Pa h) r q) ∙ w))
 
     back : (cl : ℕ → Branch) (h : List Move) → Ready h → Likes cl (all_shown ck n size h) (all_shown ck n size (recast ck n size keys tapes h)) → Sames cl h × Opens h
-    back cl [] ready l = ((λ r p k. not_some k), (λ r p k. not_some k))
+    back cl [] ready l = ((λ r p k. cc), (λ r p k. cc))
     back cl (c ∷ h) ready l =
         let ready' : Ready h = λ r p k. ready r p (earlier c h r p k) in
         let before = back cl h ready' l.1 in
@@ -429,7 +429,7 @@ module _ (ck : Checks) (n size : ℕ) where
 
     -- the accepted promises passed their tests
     pub passed : (h : List Move) → Ea h (λ r p. (ck.early p ≡ Ok tt) × (ck.late p ≡ Ok tt))
-    passed [] r p k = not_some k
+    passed [] r p k = cc
     passed (promise q ∷ h) r p k = go (passed h r p) (promise_view (Pa h) q)
       where
         go : (round (Pa h).made r ≡ Some p → (ck.early p ≡ Ok tt) × (ck.late p ≡ Ok tt)) → PromiseView (Pa h) q → (ck.early p ≡ Ok tt) × (ck.late p ≡ Ok tt)
@@ -483,11 +483,11 @@ module _ (ck : Checks) (n size : ℕ) where
     values r p k = tests.passing p (keeps r p k) (passed ck n size keys (λ _. blank) h r p k).1
 
     choose : (r : ℕ) (w : Option Promise) → round (past ck n size h).made r ≡ w → (t : Tape (List ℕ)) × ((p : Promise) → w ≡ Some p → Good r p t)
-    choose r None k = (blank, λ p e. not_some e)
+    choose r None k = (blank, λ p e. cc)
     choose r (Some q) k =
         let o = values r q k in
         let t = hides_on (keeps r q k).0 q.lock (lock_ok r q k) q.key o.key_lawful q.tape o.tape_lawful (e_of r) (keys r) (fit r q k).0 o.fits o.tape_for (fit r q k).1 in
-        (t.0, λ p e. subst (λ x. Good r x t.0) (inside e) (t.1, t.2))
+        (t.0, λ p e. let is : q ≡ p = cc in subst (λ x. Good r x t.0) is (t.1, t.2))
 
     tapes : ℕ → Tape (List ℕ)
     tapes r = (choose r (round (past ck n size h).made r) refl).0

@@ -4,22 +4,22 @@ use mathlib.Core.Path.{fun_ext}
 use Rattle.locks.specs.Circuit.{Gate, ac, mc, ad, mu, mus}
 use Rattle.theory.specs.Algebra.{Ops}
 use Rattle.theory.specs.Runs.{Branch, next, View, tail, head, right, step, rerun, honest}
-use Rattle.theory.proofs.Lists.{same_snoc, suc_same, zero≢suc, suc≢zero}
+use Rattle.theory.proofs.Lists.{same_snoc}
 use Rattle.theory.proofs.Sums.{Right, steps, right_on, right_now}
 
 pub empty : {A : Type 0} (xs : List A) → length xs ≡ zero → xs ≡ []
 empty [] h = refl
-empty (x ∷ xs) h = suc≢zero h
+empty (x ∷ xs) h = cc
 
 module _ {E : Type 0} (O : Ops E) where
   pub by_parts : (n : ℕ) (xs ys : List E) → length xs ≡ suc n → length ys ≡ suc n → head O xs ≡ head O ys → tail xs ≡ tail ys → xs ≡ ys
-  by_parts n [] ys h k p q = zero≢suc h
-  by_parts n (x ∷ xs) [] h k p q = zero≢suc k
+  by_parts n [] ys h k p q = cc
+  by_parts n (x ∷ xs) [] h k p q = cc
   by_parts n (x ∷ xs) (y ∷ ys) h k p q = ap₂ {C = List E} (λ z zs. z ∷ zs) p q
 
   pub length_tail : (n : ℕ) (xs : List E) → length xs ≡ suc n → length (tail xs) ≡ n
-  length_tail n [] h = zero≢suc h
-  length_tail n (x ∷ xs) h = suc_same h
+  length_tail n [] h = cc
+  length_tail n (x ∷ xs) h = cc
 
   pub same_rerun : (i j : Branch) (gs : List (Gate E)) (A B : View E) → length A.wires ≡ length B.wires → length (rerun O i gs A) ≡ length (rerun O j gs B)
   same_rerun i j [] A B h = h

@@ -1,5 +1,5 @@
 -- Verify, extract, promise, answer and drop are judged by their rules.
-use Rattle.std.proofs.Common.{◌≡◌, ℕ, suc, ◌+◌, ◌*◌, ◌<◌, ◌≤◌, Bool, true, eqb, ltb, leb, List, [], ◌∷◌, ◌++◌, length, get_or, Some, None, Ok, Err, Option, Result, sym, refl, ap, ◌∙◌, subst, ap₂, inl, inr, arith, ltb-true}
+use Rattle.std.proofs.Common.{◌≡◌, ℕ, suc, ◌+◌, ◌*◌, ◌<◌, ◌≤◌, Bool, true, eqb, ltb, leb, List, [], ◌∷◌, ◌++◌, length, get_or, Some, None, Ok, Err, Option, Result, sym, refl, ap, ◌∙◌, subst, ap₂, inl, inr, ltb-true, ok_or}
 use lib.ListN.{length-map}
 use Rattle.std.proofs.lemmas.Bool.{eqb-true, eq-eqb, leb-true, le-leb, lt-ltb}
 use Rattle.faults.specs.declared.Fault.{Fault}
@@ -12,28 +12,22 @@ use Rattle.locks.specs.Circuit.{Gate, ac, mc, ad, mu, Circuit, mus}
 use Rattle.locks.specs.Reading.{lock_of}
 use Rattle.seals.specs.Sealing.{Sealing}
 use Rattle.theory.specs.declared.RoundState.{RoundState}
-use Rattle.theory.specs.Algebra.{Ops, ops_of}
+use Rattle.theory.specs.Algebra.{ops_of}
 use Rattle.theory.specs.Runs.{Branch, one, two, three, next, View, sum, sum_of, at_outputs, targets, step, due}
 use Rattle.theory.specs.Branches.{Tape}
 use Rattle.theory.specs.Groups.{element_at}
 use Rattle.theory.specs.Messages.{pick_byte, branch_of, view_of, length_of_view, shares_at, masks_at, products_at, outs_at, outs_in, picked_view, next_view, key_of, tape_of, tape_shares_at, tape_masks_at}
 use Rattle.theory.specs.Tests.{both, first_at, lawful_at, unlike}
-use Rattle.theory.specs.Verdict.{branch_or, picked, wrong_product, verify_sizes, first_formed, view_formed, answer_formed, figure_holds, messages_right}
-use Rattle.theory.specs.Extraction.{extract_then, extract_sizes, compared}
+use Rattle.theory.specs.Verdict.{picked, wrong_product, verify_sizes, first_formed, view_formed, answer_formed, figure_holds, messages_right}
+use Rattle.theory.specs.Extraction.{at_pick, extract_sizes, compared}
 use Rattle.theory.specs.Keeper.{Keeper, Given, promise_sizes, key_right, tape_right, promise_result, state_of, open_by}
 use Rattle.theory.specs.Rules.{Rule, Judged, must, all_equal, product_wires, IsPick, verify_size_rules, group_rule, view_rules, message_rules, extract_size_rules, beside_pick, promise_rules, RulesLaw}
-use Rattle.theory.proofs.Basics.{not_some, inside}
 use Rattle.theory.proofs.Checked.{same_bytes, wire_of, wrong_is}
-use Rattle.theory.proofs.Lists.{suc≢zero, suc_same}
 use Rattle.theory.proofs.Groups.{counted}
+use Rattle.theory.proofs.Lists.{length_sum}
 use Rattle.theory.proofs.Parts.{view_for}
 use Rattle.theory.proofs.Verdicts.{picked_byte, pick_branch}
-use Rattle.theory.proofs.Judging.{nothing_asked, tested, joined, beside_joined, elements, equals, ok_err, err_then_ok, err_same}
-
-length_sum : {E : Type 0} (O : Ops E) (u w : List E) → length u ≡ length w → length (sum O u w) ≡ length u
-length_sum O [] w h = refl
-length_sum O (x ∷ u) [] h = suc≢zero h
-length_sum O (x ∷ u) (y ∷ w) h = ap suc (length_sum O u w (suc_same h))
+use Rattle.theory.proofs.Judging.{nothing_asked, tested, joined, beside_joined, elements, equals}
 
 length_due : (K : Kind) (i n : Branch) (gs : List (Gate (List ℕ))) (A B : View (List ℕ)) → length (due (ops_of K) i n gs A B) ≡ mus gs
 length_due K i n [] A B = refl
@@ -64,17 +58,17 @@ by_test b f rs a v j = tested (b ≡ true) b f (λ h. h) (λ h. h) rs a v j
 -- a rule that is broken for certain
 never : {A : Type 0} (P : Type 0) (f : Fault) (a : A) → (P → ⊥) → Judged (must P f ∷ []) a (Err f)
 never P f a wrong = record {
-  accepts = λ h. err_then_ok h;
+  accepts = λ h. cc;
   accepted = λ k. absurd (wrong k.0);
-  refuses = λ g h. inl (wrong, sym (err_same h));
+  refuses = λ g h. inl (wrong, cc);
   refused = λ g h. elim h [ inl x ↦ ap Err (sym x.1) | inr x ↦ absurd x.1 ];
 }
 
 no_pick : (pick : ℕ) → (IsPick pick → ⊥) → picked pick ≡ Err (fault Reason.WrongPick pick)
 no_pick pick wrong = go (branch_of pick) refl
   where
-    go : (o : Option Branch) → branch_of pick ≡ o → branch_or (branch_of pick) (fault Reason.WrongPick pick) ≡ Err (fault Reason.WrongPick pick)
-    go None e = ap (λ o. branch_or o (fault Reason.WrongPick pick)) e
+    go : (o : Option Branch) → branch_of pick ≡ o → ok_or (branch_of pick) (fault Reason.WrongPick pick) ≡ Err (fault Reason.WrongPick pick)
+    go None e = ap (λ o. ok_or o (fault Reason.WrongPick pick)) e
     go (Some b) e = absurd (wrong (b, pick_branch pick b e))
 
 module _ (K : Kind) (S : Sealing) (l : Circuit (List ℕ)) where
@@ -111,16 +105,16 @@ module _ (K : Kind) (S : Sealing) (l : Circuit (List ℕ)) where
     shares_long : (i : Branch) (w : List (List ℕ)) → length (at_outputs (ops_of K) l.outputs w) ≡ length (outs_in K l fm i)
     shares_long i w = length-map l.outputs _ ∙ sym (y_long i)
 
-    products_judged : Judged (all_equal (λ i. fault_in (pick_byte e) Reason.WrongProduct (get_or (product_wires l.inputs l.gates) i 0)) A.products (due (ops_of K) e (next e) l.gates A B) ∷ []) tt
-        (first_at (wrong_product K e (next e) l.inputs l.gates A B) (λ w. fault_in (pick_byte e) Reason.WrongProduct w))
+    products_judged : Judged (all_equal (λ i. fault_in e Reason.WrongProduct (get_or (product_wires l.inputs l.gates) i 0)) A.products (due (ops_of K) e (next e) l.gates A B) ∷ []) tt
+        (first_at (wrong_product K e (next e) l.inputs l.gates A B) (λ w. fault_in e Reason.WrongProduct w))
     products_judged =
         let sized = (view_for K l (picked_view K l an)).multiplied in
         let ws = product_wires l.inputs l.gates in
         let D = due (ops_of K) e (next e) l.gates A B in
-        subst (Judged (all_equal (λ i. fault_in (pick_byte e) Reason.WrongProduct (get_or ws i 0)) A.products D ∷ []) tt)
-        (wire_first ws (unlike A.products D) (λ w. fault_in (pick_byte e) Reason.WrongProduct w)
-        ∙ ap (λ o. first_at o (λ w. fault_in (pick_byte e) Reason.WrongProduct w)) (sym (wrong_is K e (next e) l.inputs l.gates A B sized)))
-        (equals (λ i. fault_in (pick_byte e) Reason.WrongProduct (get_or ws i 0)) A.products D (sized ∙ sym (length_due K e (next e) l.gates A B)))
+        subst (Judged (all_equal (λ i. fault_in e Reason.WrongProduct (get_or ws i 0)) A.products D ∷ []) tt)
+        (wire_first ws (unlike A.products D) (λ w. fault_in e Reason.WrongProduct w)
+        ∙ ap (λ o. first_at o (λ w. fault_in e Reason.WrongProduct w)) (sym (wrong_is K e (next e) l.inputs l.gates A B sized)))
+        (equals (λ i. fault_in e Reason.WrongProduct (get_or ws i 0)) A.products D (sized ∙ sym (length_due K e (next e) l.gates A B)))
 
     messages_judged : Judged (message_rules K S l fm e an) tt (messages_right K S l fm e an)
     messages_judged =
@@ -131,8 +125,8 @@ module _ (K : Kind) (S : Sealing) (l : Circuit (List ℕ)) where
         (by_test _ _ _ _ _ (by_eq _ _ _ _ _ _ (joined _ _ _ tt _ (view_judged 3 A) (view_judged (3 + length_of_view K l) B))))
         (joined _ _ _ tt _ (equals (λ i. fault Reason.MissedTarget i) (sum_of (ops_of K) y) (targets (ops_of K) l.outputs) sums_long)
         (by_bytes _ _ _ _ _ _ (by_bytes _ _ _ _ _ _
-        (joined _ _ _ tt _ (equals (λ i. fault_in (pick_byte e) Reason.WrongOutputShare i) _ (y e) (shares_long e _))
-        (joined _ _ _ tt _ (equals (λ i. fault_in (pick_byte (next e)) Reason.WrongOutputShare i) _ (y (next e)) (shares_long (next e) _)) products_judged))))))
+        (joined _ _ _ tt _ (equals (λ i. fault_in e Reason.WrongOutputShare i) _ (y e) (shares_long e _))
+        (joined _ _ _ tt _ (equals (λ i. fault_in (next e) Reason.WrongOutputShare i) _ (y (next e)) (shares_long (next e) _)) products_judged))))))
 
   extract_judged : (first a1 a2 a3 work1 work2 key : ℕ) → Judged (extract_size_rules K S l first a1 a2 a3 work1 work2 key) tt (extract_sizes K S l first a1 a2 a3 work1 work2 key)
   extract_judged first a1 a2 a3 work1 work2 key =
@@ -165,42 +159,42 @@ promise_judged k g l reads =
 by_state : (r : ℕ) (o : Option RoundState)
     → Judged (must (o ≡ None → ⊥) (fault Reason.UnknownRound r) ∷ must (o ≡ Some RoundState.Promised) (fault Reason.SpentRound r) ∷ []) tt (open_by r o)
 by_state r None = record {
-  accepts = λ h. err_then_ok h;
+  accepts = λ h. cc;
   accepted = λ k. absurd (k.0 refl);
-  refuses = λ f h. inl ((λ p. p refl), sym (err_same h));
+  refuses = λ f h. inl ((λ p. p refl), cc);
   refused = λ f h. elim h [ inl x ↦ ap Err (sym x.1) | inr x ↦ absurd (x.0 refl) ];
 }
 by_state r (Some RoundState.Promised) = record {
-  accepts = λ h. ((λ e. not_some (sym e)), (refl, tt));
+  accepts = λ h. ((λ e. cc), (refl, tt));
   accepted = λ k. refl;
-  refuses = λ f h. ok_err h;
-  refused = λ f h. elim h [ inl x ↦ absurd (x.0 (λ e. not_some (sym e))) | inr x ↦ elim x.1 [ inl y ↦ absurd (y.0 refl) | inr y ↦ absurd y.1 ] ];
+  refuses = λ f h. cc;
+  refused = λ f h. elim h [ inl x ↦ absurd (x.0 (λ e. cc)) | inr x ↦ elim x.1 [ inl y ↦ absurd (y.0 refl) | inr y ↦ absurd y.1 ] ];
 }
 by_state r (Some RoundState.Answered) = record {
-  accepts = λ h. err_then_ok h;
-  accepted = λ k. let z : ◌≡◌ {A = RoundState} RoundState.Answered RoundState.Promised = inside k.1.0 in other z;
-  refuses = λ f h. inr ((λ e. not_some (sym e)), inl ((λ e. other (inside e)), sym (err_same h)));
-  refused = λ f h. elim h [ inl x ↦ absurd (x.0 (λ e. not_some (sym e))) | inr x ↦ elim x.1 [ inl y ↦ ap Err (sym y.1) | inr y ↦ absurd y.1 ] ];
+  accepts = λ h. cc;
+  accepted = λ k. let z : ◌≡◌ {A = RoundState} RoundState.Answered RoundState.Promised = cc in other z;
+  refuses = λ f h. inr ((λ e. cc), inl ((λ e. other cc), cc));
+  refused = λ f h. elim h [ inl x ↦ absurd (x.0 (λ e. cc)) | inr x ↦ elim x.1 [ inl y ↦ ap Err (sym y.1) | inr y ↦ absurd y.1 ] ];
 }
   where
     other : {X : Type 0} → RoundState.Answered ≡ RoundState.Promised → X
-    other h = let z : ◌≡◌ {A = ℕ} 0 1 = cc in absurd (omega arith)
+    other h = cc
 by_state r (Some RoundState.Dropped) = record {
-  accepts = λ h. err_then_ok h;
-  accepted = λ k. let z : ◌≡◌ {A = RoundState} RoundState.Dropped RoundState.Promised = inside k.1.0 in other z;
-  refuses = λ f h. inr ((λ e. not_some (sym e)), inl ((λ e. other (inside e)), sym (err_same h)));
-  refused = λ f h. elim h [ inl x ↦ absurd (x.0 (λ e. not_some (sym e))) | inr x ↦ elim x.1 [ inl y ↦ ap Err (sym y.1) | inr y ↦ absurd y.1 ] ];
+  accepts = λ h. cc;
+  accepted = λ k. let z : ◌≡◌ {A = RoundState} RoundState.Dropped RoundState.Promised = cc in other z;
+  refuses = λ f h. inr ((λ e. cc), inl ((λ e. other cc), cc));
+  refused = λ f h. elim h [ inl x ↦ absurd (x.0 (λ e. cc)) | inr x ↦ elim x.1 [ inl y ↦ ap Err (sym y.1) | inr y ↦ absurd y.1 ] ];
 }
   where
     other : {X : Type 0} → RoundState.Dropped ≡ RoundState.Promised → X
-    other h = let z : ◌≡◌ {A = ℕ} 0 1 = cc in absurd (omega arith)
+    other h = cc
 
 pub rules_law : RulesLaw
 rules_law = record {
   lock_first = λ K S lock f h. (
     (λ fm pick an work1 work2. ap (λ R. and_then R (λ l. both (verify_sizes K S l (length fm) (length an) work1 work2) (and_then (picked pick) (λ e. messages_right K S l fm e an)))) h),
-    (λ fm an work1 work2 key. ap (λ R. extract_then 0 R (λ l. extract_then 0 (extract_sizes K S l (length fm) (length (an one)) (length (an two)) (length (an three)) work1 work2 key) (λ _.
-        extract_then 1 (messages_right K S l fm one (an one)) (λ _. extract_then 2 (messages_right K S l fm two (an two)) (λ _. extract_then 3 (messages_right K S l fm three (an three)) (λ _. Ok (compared K S l an))))))) h),
+    (λ fm an work1 work2 key. ap (λ R. and_then (at_pick None R) (λ l. and_then (at_pick None (extract_sizes K S l (length fm) (length (an one)) (length (an two)) (length (an three)) work1 work2 key)) (λ _.
+        and_then (at_pick (Some one) (messages_right K S l fm one (an one))) (λ _. and_then (at_pick (Some two) (messages_right K S l fm two (an two))) (λ _. and_then (at_pick (Some three) (messages_right K S l fm three (an three))) (λ _. Ok (compared K S l an))))))) h),
     (λ k g a b. ap (λ R. and_then R (λ l. and_then (promise_sizes g l) (λ _.
         check (eqb (length_of_view g.kind l) k.view_size) (fault Reason.WrongSize 7) (check (ltb (length k.table) k.capacity) (fault Reason.KeeperFull k.capacity)
         (and_then (key_right g.kind l (key_of g.kind l g.key)) (λ _. and_then (tape_right g.kind l (tape_of g.kind l g.tape)) (λ _. Ok (suc (length k.table)))))))))
@@ -217,15 +211,15 @@ rules_law = record {
       (joined _ _ _ tt _ (sizes_judged K S l (length fm) (length an) work1 work2)
       (subst (λ R. Judged (must (IsPick pick) (fault Reason.WrongPick pick) ∷ []) tt (and_then R (λ e. messages_right K S l fm e an))) (sym (no_pick pick wrong)) (never (IsPick pick) (fault Reason.WrongPick pick) tt wrong)));
   extracting = λ K S lock l reads fm an work1 work2 key.
-      subst (λ R. Judged (beside_pick 0 (extract_size_rules K S l (length fm) (length (an one)) (length (an two)) (length (an three)) work1 work2 key)
-      ++ (beside_pick 1 (message_rules K S l fm one (an one)) ++ (beside_pick 2 (message_rules K S l fm two (an two)) ++ beside_pick 3 (message_rules K S l fm three (an three)))))
+      subst (λ R. Judged (beside_pick None (extract_size_rules K S l (length fm) (length (an one)) (length (an two)) (length (an three)) work1 work2 key)
+      ++ (beside_pick (Some one) (message_rules K S l fm one (an one)) ++ (beside_pick (Some two) (message_rules K S l fm two (an two)) ++ beside_pick (Some three) (message_rules K S l fm three (an three)))))
       (compared K S l an)
-      (extract_then 0 R (λ l. extract_then 0 (extract_sizes K S l (length fm) (length (an one)) (length (an two)) (length (an three)) work1 work2 key) (λ _.
-      extract_then 1 (messages_right K S l fm one (an one)) (λ _. extract_then 2 (messages_right K S l fm two (an two)) (λ _. extract_then 3 (messages_right K S l fm three (an three)) (λ _. Ok (compared K S l an)))))))) (sym reads)
-      (beside_joined 0 _ _ _ (compared K S l an) _ (extract_judged K S l (length fm) (length (an one)) (length (an two)) (length (an three)) work1 work2 key)
-      (beside_joined 1 _ _ _ (compared K S l an) _ (messages_judged K S l fm one (an one))
-      (beside_joined 2 _ _ _ (compared K S l an) _ (messages_judged K S l fm two (an two))
-      (beside_joined 3 _ [] _ (compared K S l an) _ (messages_judged K S l fm three (an three)) (nothing_asked (compared K S l an))))));
+      (and_then (at_pick None R) (λ l. and_then (at_pick None (extract_sizes K S l (length fm) (length (an one)) (length (an two)) (length (an three)) work1 work2 key)) (λ _.
+      and_then (at_pick (Some one) (messages_right K S l fm one (an one))) (λ _. and_then (at_pick (Some two) (messages_right K S l fm two (an two))) (λ _. and_then (at_pick (Some three) (messages_right K S l fm three (an three))) (λ _. Ok (compared K S l an)))))))) (sym reads)
+      (beside_joined None _ _ _ (compared K S l an) _ (extract_judged K S l (length fm) (length (an one)) (length (an two)) (length (an three)) work1 work2 key)
+      (beside_joined (Some one) _ _ _ (compared K S l an) _ (messages_judged K S l fm one (an one))
+      (beside_joined (Some two) _ _ _ (compared K S l an) _ (messages_judged K S l fm two (an two))
+      (beside_joined (Some three) _ [] _ (compared K S l an) _ (messages_judged K S l fm three (an three)) (nothing_asked (compared K S l an))))));
   promising = promise_judged;
   answering = λ k r e size.
       joined _ _ _ e _ (by_state r (state_of k.table r))

@@ -4,28 +4,19 @@ use Rattle.std.specs.List.{AllByRecursion}
 use Rattle.faults.specs.declared.Fault.{Fault}
 use Rattle.faults.specs.Outcomes.{check, and_then}
 use Rattle.kinds.specs.Kind.{Kind, Lawful, same_row}
-use Rattle.kinds.proofs.Same.{same_true}
 use Rattle.theory.specs.Tests.{Verdict, first_at, later, unlawful, unlike}
+use Rattle.faults.specs.declared.Branch.{Branch}
 use Rattle.theory.specs.declared.Extracted.{Extracted}
 use Rattle.theory.specs.declared.PickFault.{PickFault}
-use Rattle.theory.specs.Extraction.{beside, extract_then}
+use Rattle.theory.specs.Extraction.{beside, at_pick}
 use Rattle.theory.specs.Rules.{Rule, AllKept, FirstBroken, Judged, must, all_lawful, all_equal, DifferFirst, beside_pick}
-use Rattle.theory.proofs.Basics.{clash, not_some}
+use Rattle.theory.proofs.Unlikes.{some_first, first_some}
+use Rattle.std.proofs.lemmas.Slice.Eq.{bytes_eq-Decides}
 use Rattle.theory.proofs.Checked as checked
 use Rattle.theory.proofs.Checked.{lawful_all, unlike_same, same_unlike, same_bytes}
-use Rattle.theory.proofs.Lists.{zero≢suc, suc≢zero, suc_same}
-
-pub err_same : {A F : Type 0} {f g : F} → ◌≡◌ {A = Result A F} (Err f) (Err g) → f ≡ g
-err_same h = cc
-
-pub ok_err : {A F X : Type 0} {a : A} {f : F} → ◌≡◌ {A = Result A F} (Ok a) (Err f) → X
-ok_err h = let z : ◌≡◌ {A = ℕ} 0 1 = cc in absurd (omega arith)
-
-pub err_then_ok : {A F X : Type 0} {a : A} {f : F} → ◌≡◌ {A = Result A F} (Err f) (Ok a) → X
-err_then_ok h = let z : ◌≡◌ {A = ℕ} 0 1 = cc in absurd (omega arith)
 
 pub nothing_asked : {A F : Type 0} (a : A) → Judged {F = F} [] a (Ok a)
-nothing_asked a = record { accepts = λ _. tt; accepted = λ _. refl; refuses = λ f h. ok_err h; refused = λ f h. absurd h }
+nothing_asked a = record { accepts = λ _. tt; accepted = λ _. refl; refuses = λ f h. cc; refused = λ f h. absurd h }
 
 -- a plain condition, tested
 pub tested : {A : Type 0} (P : Type 0) (b : Bool) (f : Fault) → (b ≡ true → P) → (P → b ≡ true) → (rs : List (Rule Fault)) (a : A) (v : Result A Fault) → Judged rs a v → Judged (must P f ∷ rs) a (check b f v)
@@ -36,17 +27,13 @@ tested P true f to from rs a v j = record {
   refused = λ g h. elim h [ inl x ↦ absurd (x.0 (to refl)) | inr x ↦ j.refused g x.1 ];
 }
 tested P false f to from rs a v j = record {
-  accepts = λ h. err_then_ok h;
-  accepted = λ k. clash (from k.0) refl;
-  refuses = λ g h. inl ((λ p. clash (from p) refl), sym (err_same h));
-  refused = λ g h. elim h [ inl x ↦ ap Err (sym x.1) | inr x ↦ clash (from x.0) refl ];
+  accepts = λ h. cc;
+  accepted = λ k. cc (from k.0);
+  refuses = λ g h. inl ((λ p. (cc (from p))), cc);
+  refused = λ g h. elim h [ inl x ↦ ap Err (sym x.1) | inr x ↦ (cc (from x.0)) ];
 }
 
 -- one test after another
-abbrev pub seq : {A F : Type 0} → Result (Unit {0}) F → Result A F → Result A F
-seq (Ok u) w = w
-seq (Err f) w = Err f
-
 module _ {F : Type 0} (ss : List (Rule F)) where
   to_left : (rs : List (Rule F)) (f : F) → FirstBroken rs f → FirstBroken (rs ++ ss) f
   to_left [] f h = absurd h
@@ -70,71 +57,56 @@ module _ {F : Type 0} (ss : List (Rule F)) where
   each_kept [] h = (tt, h)
   each_kept (r ∷ rs) h = let q = each_kept rs h.1 in ((h.0, q.0), q.1)
 
-pub in_turn : {A F : Type 0} (rs ss : List (Rule F)) (v : Result (Unit {0}) F) (a : A) (w : Result A F) → Judged rs tt v → Judged ss a w → Judged (rs ++ ss) a (seq v w)
-in_turn rs ss (Ok u) a w j k = record {
+pub joined : {A F : Type 0} (rs ss : List (Rule F)) (v : Result (Unit {0}) F) (a : A) (w : Result A F) → Judged rs tt v → Judged ss a w → Judged (rs ++ ss) a (and_then v (λ _. w))
+joined rs ss (Ok u) a w j k = record {
   accepts = λ h. both_kept ss rs (j.accepts refl) (k.accepts h);
   accepted = λ h. k.accepted (each_kept ss rs h).1;
   refuses = λ f h. to_right ss rs f (j.accepts refl) (k.refuses f h);
-  refused = λ f h. elim (either ss rs f h) [ inl x ↦ ok_err (j.refused f x) | inr x ↦ k.refused f x.1 ];
+  refused = λ f h. elim (either ss rs f h) [ inl x ↦ (cc (j.refused f x)) | inr x ↦ k.refused f x.1 ];
 }
-in_turn rs ss (Err g) a w j k = record {
-  accepts = λ h. err_then_ok h;
-  accepted = λ h. err_then_ok (j.accepted (each_kept ss rs h).0);
-  refuses = λ f h. to_left ss rs f (j.refuses f (ap Err (err_same h)));
-  refused = λ f h. elim (either ss rs f h) [ inl x ↦ ap Err (err_same (j.refused f x)) | inr x ↦ err_then_ok (j.accepted x.0) ];
+joined rs ss (Err g) a w j k = record {
+  accepts = λ h. cc;
+  accepted = λ h. cc (j.accepted (each_kept ss rs h).0);
+  refuses = λ f h. to_left ss rs f (j.refuses f cc);
+  refused = λ f h. elim (either ss rs f h) [ inl x ↦ ap Err (cc (j.refused f x)) | inr x ↦ (cc (j.accepted x.0)) ];
 }
-
-then_seq : {A : Type 0} (v : Verdict) (w : Result A Fault) → seq v w ≡ and_then v (λ _. w)
-then_seq (Ok u) w = refl
-then_seq (Err f) w = refl
-
-pub joined : {A : Type 0} (rs ss : List (Rule Fault)) (v : Verdict) (a : A) (w : Result A Fault) → Judged rs tt v → Judged ss a w → Judged (rs ++ ss) a (and_then v (λ _. w))
-joined rs ss v a w j k = subst (Judged (rs ++ ss) a) (then_seq v w) (in_turn rs ss v a w j k)
 
 -- a fault beside its pick
-abbrev tagged : ℕ → Verdict → Result (Unit {0}) PickFault
-tagged e (Ok u) = Ok u
-tagged e (Err f) = Err (beside e f)
-
-kept_beside : (e : ℕ) (rs : List (Rule Fault)) → AllKept rs → AllKept (beside_pick e rs)
+kept_beside : (e : Option Branch) (rs : List (Rule Fault)) → AllKept rs → AllKept (beside_pick e rs)
 kept_beside e [] h = tt
 kept_beside e (r ∷ rs) h = (h.0, kept_beside e rs h.1)
 
-beside_kept : (e : ℕ) (rs : List (Rule Fault)) → AllKept (beside_pick e rs) → AllKept rs
+beside_kept : (e : Option Branch) (rs : List (Rule Fault)) → AllKept (beside_pick e rs) → AllKept rs
 beside_kept e [] h = tt
 beside_kept e (r ∷ rs) h = (h.0, beside_kept e rs h.1)
 
-broken_beside : (e : ℕ) (rs : List (Rule Fault)) (f : Fault) → FirstBroken rs f → FirstBroken (beside_pick e rs) (beside e f)
+broken_beside : (e : Option Branch) (rs : List (Rule Fault)) (f : Fault) → FirstBroken rs f → FirstBroken (beside_pick e rs) (beside e f)
 broken_beside e [] f h = absurd h
 broken_beside e (r ∷ rs) f (inl x) = inl (f, x, refl)
 broken_beside e (r ∷ rs) f (inr x) = inr (x.0, broken_beside e rs f x.1)
 
-beside_broken : (e : ℕ) (rs : List (Rule Fault)) (x : PickFault) → FirstBroken (beside_pick e rs) x → (f : Fault) × FirstBroken rs f × (x ≡ beside e f)
+beside_broken : (e : Option Branch) (rs : List (Rule Fault)) (x : PickFault) → FirstBroken (beside_pick e rs) x → (f : Fault) × FirstBroken rs f × (x ≡ beside e f)
 beside_broken e [] x h = absurd h
 beside_broken e (r ∷ rs) x (inl y) = (y.0, inl y.1, y.2)
 beside_broken e (r ∷ rs) x (inr y) = let q = beside_broken e rs x y.1 in (q.0, inr (y.0, q.1), q.2)
 
-tagged_judged : (e : ℕ) (rs : List (Rule Fault)) (v : Verdict) → Judged rs tt v → Judged (beside_pick e rs) tt (tagged e v)
-tagged_judged e rs (Ok u) j = record {
+judged_beside : (e : Option Branch) (rs : List (Rule Fault)) (v : Verdict) → Judged rs tt v → Judged (beside_pick e rs) tt (at_pick e v)
+judged_beside e rs (Ok u) j = record {
   accepts = λ h. kept_beside e rs (j.accepts refl);
   accepted = λ h. refl;
-  refuses = λ x h. ok_err h;
-  refused = λ x h. ok_err (j.refused (beside_broken e rs x h).0 (beside_broken e rs x h).1);
+  refuses = λ x h. cc;
+  refused = λ x h. cc (j.refused (beside_broken e rs x h).0 (beside_broken e rs x h).1);
 }
-tagged_judged e rs (Err g) j = record {
-  accepts = λ h. err_then_ok h;
-  accepted = λ h. err_then_ok (j.accepted (beside_kept e rs h));
-  refuses = λ x h. subst (FirstBroken (beside_pick e rs)) (err_same h) (broken_beside e rs g (j.refuses g refl));
-  refused = λ x h. let q = beside_broken e rs x h in ap (λ f. Err (beside e f)) (err_same (j.refused q.0 q.1)) ∙ ap Err (sym q.2);
+judged_beside e rs (Err g) j = record {
+  accepts = λ h. cc;
+  accepted = λ h. cc (j.accepted (beside_kept e rs h));
+  refuses = λ x h. subst (FirstBroken (beside_pick e rs)) (cc) (broken_beside e rs g (j.refuses g refl));
+  refused = λ x h. let q = beside_broken e rs x h in ap (λ f. Err (beside e f)) (cc (j.refused q.0 q.1)) ∙ ap Err (sym q.2);
 }
 
-tag_seq : (e : ℕ) (v : Verdict) (w : Result Extracted PickFault) → seq (tagged e v) w ≡ extract_then e v (λ _. w)
-tag_seq e (Ok u) w = refl
-tag_seq e (Err f) w = refl
-
-pub beside_joined : (e : ℕ) (rs : List (Rule Fault)) (ss : List (Rule PickFault)) (v : Verdict) (a : Extracted) (w : Result Extracted PickFault)
-    → Judged rs tt v → Judged ss a w → Judged (beside_pick e rs ++ ss) a (extract_then e v (λ _. w))
-beside_joined e rs ss v a w j k = subst (Judged (beside_pick e rs ++ ss) a) (tag_seq e v w) (in_turn (beside_pick e rs) ss (tagged e v) a w (tagged_judged e rs v j) k)
+pub beside_joined : (e : Option Branch) (rs : List (Rule Fault)) (ss : List (Rule PickFault)) (v : Verdict) (a : Extracted) (w : Result Extracted PickFault)
+    → Judged rs tt v → Judged ss a w → Judged (beside_pick e rs ++ ss) a (and_then (at_pick e v) (λ _. w))
+beside_joined e rs ss v a w j k = joined (beside_pick e rs) ss (at_pick e v) a w (judged_beside e rs v j) k
 
 -- the first wrong one of many
 pub firsts : (P : Type 0) (B : ℕ → Type 0) (at : ℕ → Fault) (o : Option ℕ) → (o ≡ None → P) → (P → o ≡ None) → ((i : ℕ) → o ≡ Some i → B i) → ((i : ℕ) → B i → o ≡ Some i)
@@ -142,15 +114,15 @@ pub firsts : (P : Type 0) (B : ℕ → Type 0) (at : ℕ → Fault) (o : Option 
 firsts P B at None to from first back = record {
   accepts = λ _. (to refl, tt);
   accepted = λ _. refl;
-  refuses = λ f h. ok_err h;
-  refused = λ f h. elim h [ inl x ↦ not_some (back x.0 x.1) | inr x ↦ absurd x.1 ];
+  refuses = λ f h. cc;
+  refused = λ f h. elim h [ inl x ↦ (cc (back x.0 x.1)) | inr x ↦ absurd x.1 ];
 }
 firsts P B at (Some j) to from first back = record {
-  accepts = λ h. err_then_ok h;
-  accepted = λ k. not_some (sym (from k.0));
-  refuses = λ f h. inl (j, first j refl, sym (err_same h));
+  accepts = λ h. cc;
+  accepted = λ k. cc (sym (from k.0));
+  refuses = λ f h. inl (j, first j refl, cc);
   refused = λ f h. elim h [
-    | inl x ↦ (let same : j ≡ x.0 = Rattle.theory.proofs.Basics.inside (back x.0 x.1) in ap (λ i. Err (at i)) same ∙ ap Err (sym x.2))
+    | inl x ↦ (let same : j ≡ x.0 = cc (back x.0 x.1) in ap (λ i. Err (at i)) same ∙ ap Err (sym x.2))
     | inr x ↦ absurd x.1
   ];
 }
@@ -161,18 +133,18 @@ UnlawfulAt K es i = (i < length es) × AllByRecursion (Lawful K) (take i es) × 
 
 unlawful_first : (K : Kind) (es : List (List ℕ)) (i : ℕ) → unlawful K es ≡ Some i → UnlawfulAt K es i
 unfolding UnlawfulAt
-unlawful_first K [] i h = not_some h
+unlawful_first K [] i h = cc
 unlawful_first K (e ∷ es) i h = go (unlawful_first K es) (K.lawful e) refl (unlawful K es) refl h
   where
     go : ((j : ℕ) → unlawful K es ≡ Some j → UnlawfulAt K es j) → (b : Bool) → K.lawful e ≡ b → (o : Option ℕ) → unlawful K es ≡ o → cond b (later o) (Some 0) ≡ Some i → UnlawfulAt K (e ∷ es) i
-    go ih true l None eo k = not_some k
+    go ih true l None eo k = cc
     go ih true l (Some j) eo k =
         let r = ih j eo in
         let at : suc j ≡ i = cc in
         subst (UnlawfulAt K (e ∷ es)) at (omega (arith, r.0), (l, r.1), r.2)
     go ih false l o eo k =
         let at : 0 ≡ i = cc in
-        subst (UnlawfulAt K (e ∷ es)) at (omega arith, tt, λ x. clash x l)
+        subst (UnlawfulAt K (e ∷ es)) at (omega arith, tt, λ x. cc)
 
 first_unlawful : (K : Kind) (es : List (List ℕ)) (i : ℕ) → UnlawfulAt K es i → unlawful K es ≡ Some i
 unfolding UnlawfulAt
@@ -197,35 +169,6 @@ elements K at es =
     }
 
 -- rows that differ
-unlike_first : (xs ys : List (List ℕ)) (i : ℕ) → length xs ≡ length ys → unlike xs ys ≡ Some i → DifferFirst xs ys i
-unlike_first [] [] i l h = not_some h
-unlike_first [] (y ∷ ys) i l h = zero≢suc l
-unlike_first (x ∷ xs) [] i l h = suc≢zero l
-unlike_first (x ∷ xs) (y ∷ ys) i l h = go (λ j. unlike_first xs ys j (suc_same l)) (same_row x y) refl (unlike xs ys) refl h
-  where
-    go : ((j : ℕ) → unlike xs ys ≡ Some j → DifferFirst xs ys j) → (b : Bool) → same_row x y ≡ b → (o : Option ℕ) → unlike xs ys ≡ o → cond b (later o) (Some 0) ≡ Some i → DifferFirst (x ∷ xs) (y ∷ ys) i
-    go ih true e None eo k = not_some k
-    go ih true e (Some j) eo k =
-        let r = ih j eo in
-        let at : suc j ≡ i = cc in
-        subst (DifferFirst (x ∷ xs) (y ∷ ys)) at (omega (arith, r.0), ap₂ {C = List (List ℕ)} (λ z zs. z ∷ zs) (same_true x y e) r.1, r.2)
-    go ih false e o eo k =
-        let at : 0 ≡ i = cc in
-        subst (DifferFirst (x ∷ xs) (y ∷ ys)) at (omega arith, refl, λ same. clash (same_bytes same) e)
-
-first_unlike : (xs ys : List (List ℕ)) (i : ℕ) → length xs ≡ length ys → DifferFirst xs ys i → unlike xs ys ≡ Some i
-first_unlike [] ys i l h = absurd (omega (arith, h.0))
-first_unlike (x ∷ xs) [] i l h = suc≢zero l
-first_unlike (x ∷ xs) (y ∷ ys) zero l h = go (same_row x y) refl
-  where
-    go : (b : Bool) → same_row x y ≡ b → cond b (later (unlike xs ys)) (Some 0) ≡ Some 0
-    go true e = absurd (h.2 (same_true x y e))
-    go false e = refl
-first_unlike (x ∷ xs) (y ∷ ys) (suc i) l h =
-    let front : x ∷ take i xs ≡ y ∷ take i ys = h.1 in
-    let head : x ≡ y = cc in
-    let tail : take i xs ≡ take i ys = cc in
-    ap₂ (λ b o. cond b (later o) (Some 0)) (same_bytes head) (first_unlike xs ys i (suc_same l) (omega (arith, h.0), tail, h.2))
-
 pub equals : (at : ℕ → Fault) (xs ys : List (List ℕ)) → length xs ≡ length ys → Judged (all_equal at xs ys ∷ []) tt (first_at (unlike xs ys) at)
-equals at xs ys l = firsts (xs ≡ ys) (DifferFirst xs ys) at (unlike xs ys) (unlike_same xs ys) same_unlike (λ i. unlike_first xs ys i l) (λ i. first_unlike xs ys i l)
+equals at xs ys l = firsts (xs ≡ ys) (DifferFirst [] xs ys) at (unlike xs ys) (unlike_same xs ys) same_unlike
+    (λ i. some_first same_row bytes_eq-Decides [] xs ys i l) (λ i. first_some same_row bytes_eq-Decides [] xs ys i l)

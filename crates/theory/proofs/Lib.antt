@@ -11,6 +11,7 @@ pub mod Groups
 pub mod Parts
 pub mod Slices
 pub mod Basics
+pub mod Unlikes
 pub mod Checked
 pub mod Verdicts
 pub mod Extractor

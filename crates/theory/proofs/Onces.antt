@@ -1,11 +1,11 @@
 -- A round ends once: by the table alone, whatever kinds and sealers are given.
 use Rattle.std.proofs.Common.{◌≡◌, ℕ, zero, suc, ◌≤◌, Bool, true, false, cond, eqb, ltb, ◌⊎◌, List, [], ◌∷◌, ◌++◌, length, Some, None, Ok, Err, Option, Result, sym, refl, ap, ◌∙◌, inl, inr, arith, eqb-true}
-use lib.Dec.{eqb_refl}
+use Rattle.std.proofs.lemmas.Bool.{eq-eqb}
 use Rattle.faults.specs.declared.Fault.{Fault}
 use Rattle.faults.specs.declared.Reason.{Reason}
 use Rattle.faults.specs.Numbers.{fault}
 use Rattle.faults.specs.Outcomes.{check, and_then}
-use Rattle.faults.proofs.Passed.{then_ok, ok_same, err_ok}
+use Rattle.faults.proofs.Passed.{then_ok}
 use Rattle.locks.specs.Reading.{lock_of}
 use Rattle.theory.specs.Messages.{length_of_view, key_of, tape_of}
 use Rattle.theory.specs.declared.RoundState.{RoundState}
@@ -13,18 +13,17 @@ use Rattle.theory.specs.Runs.{Branch}
 use Rattle.theory.specs.Tests.{left}
 use Rattle.theory.specs.Keeper.{Keeper, made_from, Given, own_view_bytes, promise_sizes, key_right, tape_right, own_first, promise_result, kept, after_promise, state_of, with_state, open_by, answer_branch, ended, drop_result}
 use Rattle.theory.specs.History.{Call, call_promise, call_answer, call_drop, promise_told, run, End, opened, let_go, noted, made, ends}
-use Rattle.theory.proofs.Basics.{clash, not_some, inside, T_true}
 use Rattle.theory.proofs.Lists.{length_snoc}
 use Rattle.theory.proofs.Stored.{is_spent, spent_of}
 use Rattle.theory.proofs.Stores.{fate, spent_if, fate_marked}
 
 through : {A : Type 0} (R : Result A Fault) (X : A → Result ℕ Fault) (n q : ℕ) → ((a : A) → X a ≡ Ok q → q ≡ n) → and_then R X ≡ Ok q → q ≡ n
 through (Ok a) X n q h e = h a e
-through (Err f) X n q h e = err_ok e
+through (Err f) X n q h e = cc
 
 past : (b : Bool) (f : Fault) (R : Result ℕ Fault) (n q : ℕ) → (R ≡ Ok q → q ≡ n) → check b f R ≡ Ok q → q ≡ n
 past true f R n q h e = h e
-past false f R n q h e = err_ok e
+past false f R n q h e = cc
 
 -- an accepted promise gives the next number
 pub promise_number : (k : Keeper) (g : Given) (q : ℕ) → promise_result k g ≡ Ok q → q ≡ suc (length k.table)
@@ -33,7 +32,7 @@ promise_number k g q =
     through (lock_of g.kind g.lock) _ n q (λ l.
     through (promise_sizes g l) _ n q (λ _.
     past (eqb (length_of_view g.kind l) k.view_size) (fault Reason.WrongSize 7) _ n q (past (ltb (length k.table) k.capacity) (fault Reason.KeeperFull k.capacity) _ n q
-    (through (key_right g.kind l (key_of g.kind l g.key)) _ n q (λ _. through (tape_right g.kind l (tape_of g.kind l g.tape)) _ n q (λ _ e. sym (ok_same e)))))))
+    (through (key_right g.kind l (key_of g.kind l g.key)) _ n q (λ _. through (tape_right g.kind l (tape_of g.kind l g.tape)) _ n q (λ _ e. cc))))))
 
 length_with : (t : List RoundState) (r : ℕ) (n : RoundState) → length (with_state t r n) ≡ length t
 length_with [] r n = refl
@@ -51,7 +50,7 @@ module _ (L : ℕ) (store : List ℕ) where
 
   -- rounds are numbered from 1 in the order of the accepted promises
   pub made_below : (H : List Call) (r : ℕ) (g : Given) → made L store H r ≡ Some g → r ≤ length (run k0 H).table
-  made_below [] r g h = not_some h
+  made_below [] r g h = cc
   made_below (call_promise x ∷ H) r g h = go (made_below H r g) (promise_result (run k0 H) x) refl
     where
       k : Keeper
@@ -87,17 +86,17 @@ module _ (L : ℕ) (store : List ℕ) where
 
 -- an open round is promised and not spent
 open_fate : (r : ℕ) (o : Option RoundState) → open_by r o ≡ Ok tt → spent_of o ≡ Some false
-open_fate r None h = err_ok h
+open_fate r None h = cc
 open_fate r (Some RoundState.Promised) h = refl
-open_fate r (Some RoundState.Answered) h = err_ok h
-open_fate r (Some RoundState.Dropped) h = err_ok h
+open_fate r (Some RoundState.Answered) h = cc
+open_fate r (Some RoundState.Dropped) h = cc
 
 answer_open : (k : Keeper) (r e z : ℕ) (b : Branch) → answer_branch k r e z ≡ Ok b → fate k.table r ≡ Some false
 answer_open k r e z b h = open_fate r (state_of k.table r) (then_ok _ _ b h).1
 
 state_kept : (t : List RoundState) (n : RoundState) (r : ℕ) → fate t r ≡ Some true → fate (t ++ (n ∷ [])) r ≡ Some true
-state_kept [] n r h = not_some h
-state_kept (x ∷ t) n zero h = not_some h
+state_kept [] n r h = cc
+state_kept (x ∷ t) n zero h = cc
 state_kept (x ∷ t) n (suc zero) h = h
 state_kept (x ∷ t) n (suc (suc r)) h = state_kept t n (suc r) h
 
@@ -119,7 +118,7 @@ other_end k r q s sp (Err f) e = refl
 own_end : (k : Keeper) (r : ℕ) (s : RoundState) → is_spent s ≡ true → fate k.table r ≡ Some false → fate (with_state k.table r s) r ≡ Some true
 unfolding spent_if
 own_end k r s sp h =
-    fate_marked k.table r s sp r ∙ ap (λ b. cond b (spent_if (fate k.table r)) (fate k.table r)) (T_true _ (eqb_refl r)) ∙ ap spent_if h
+    fate_marked k.table r s sp r ∙ ap (λ b. cond b (spent_if (fate k.table r)) (fate k.table r)) (eq-eqb r r refl) ∙ ap spent_if h
 
 end_step : {A : Type 0} (k : Keeper) (r q : ℕ) (s : RoundState) → is_spent s ≡ true → (R : Result A Fault) → ((a : A) → R ≡ Ok a → fate k.table q ≡ Some false)
     → (E : A → End) (es : List End) → Ended es (fate k.table r)
@@ -134,7 +133,7 @@ end_step k r q s sp (Ok a) free E es (inl n) true e =
 end_step k r q s sp (Ok a) free E es (inr n) true e =
     let same : r ≡ q = eqb-true _ _ e in
     let no : Some true ≡ Some false = sym n.1 ∙ ap (fate k.table) same ∙ free a refl in
-    clash refl (inside no)
+    cc
 
 module _ (L : ℕ) (store : List ℕ) where
   ended_once : (H : List Call) (r : ℕ) → Ended (ends L store H r) (fate (run (made_from L store) H).table r)

@@ -128,7 +128,7 @@ abbrev pub closed_of : List Branch → Branch
 closed_of [] = three
 closed_of (b ∷ bs) = next (next b)
 
--- a promise's tests: 1 to 7, of the lock and the sizes, and 12 to 14, of the values
+-- a promise's tests: of the lock and the sizes; then of the values
 pub record Checks : Type 0 where
   pub early : Promise → Verdict
   pub late : Promise → Verdict

@@ -1,5 +1,5 @@
 -- The keeper remembers what its accepted promises gave.
-use Rattle.std.proofs.Common.{◌≡◌, ℕ, suc, ◌+◌, ◌*◌, Bool, true, false, cond, eqb, ltb, List, [], ◌∷◌, length, replicate, Some, None, Ok, Err, Option, Result, sym, refl, ap, ◌∙◌, arith}
+use Rattle.std.proofs.Common.{◌≡◌, ℕ, suc, ◌+◌, ◌*◌, Bool, true, false, cond, eqb, ltb, List, [], ◌∷◌, length, replicate, Some, None, Ok, Err, Option, Result, sym, refl, ap, ◌∙◌, ok_or}
 use lib.ListN.{length-replicate}
 use Rattle.faults.specs.declared.Fault.{Fault}
 use Rattle.faults.specs.declared.Reason.{Reason}
@@ -10,7 +10,7 @@ use Rattle.theory.specs.declared.RoundState.{RoundState}
 use Rattle.theory.specs.Runs.{Branch}
 use Rattle.theory.specs.Messages.{branch_of, length_of_view, key_of, tape_of}
 use Rattle.theory.specs.Tests.{Verdict, left}
-use Rattle.theory.specs.Verdict.{branch_or, picked}
+use Rattle.theory.specs.Verdict.{picked}
 use Rattle.theory.specs.Store.{rounds_in}
 use Rattle.theory.specs.Keeper.{Keeper, made_from, Given, promise_sizes, key_right, tape_right, own_first, own_view_bytes, kept, promise_result, answer_branch, drop_result, ended}
 use Rattle.theory.specs.History.{Call, call_promise, call_answer, call_drop, Told, told_fault, promise_told, answer_from, drop_told, tells, run, End, opened, let_go, made, ends}
@@ -64,24 +64,24 @@ any [] = false
 any (x ∷ es) = true
 
 answer_any : (k : Keeper) (q : ℕ) (B : Result Branch Fault) (s : Shown) → answer_from k q B ≡ told s → (es : List End) → any (left B (λ b. opened b ∷ es) es) ≡ pasts.ends s (any es)
-answer_any k q (Ok b) (refused f) h es = let z : ◌≡◌ {A = ℕ} 0 1 = cc in absurd (omega arith)
-answer_any k q (Ok b) (promised r m) h es = let z : ◌≡◌ {A = ℕ} 0 1 = cc in absurd (omega arith)
+answer_any k q (Ok b) (refused f) h es = cc
+answer_any k q (Ok b) (promised r m) h es = cc
 answer_any k q (Ok b) (answered c x y) h es = refl
 answer_any k q (Ok b) dropped h es = refl
 answer_any k q (Err f) (refused e) h es = refl
 answer_any k q (Err f) (promised r m) h es = refl
-answer_any k q (Err f) (answered c x y) h es = let z : ◌≡◌ {A = ℕ} 0 1 = cc in absurd (omega arith)
-answer_any k q (Err f) dropped h es = let z : ◌≡◌ {A = ℕ} 0 1 = cc in absurd (omega arith)
+answer_any k q (Err f) (answered c x y) h es = cc
+answer_any k q (Err f) dropped h es = cc
 
 drop_any : (R : Verdict) (s : Shown) → drop_told R ≡ told s → (es : List End) → any (left R (λ _. let_go ∷ es) es) ≡ pasts.ends s (any es)
-drop_any (Ok u) (refused f) h es = let z : ◌≡◌ {A = ℕ} 0 1 = cc in absurd (omega arith)
-drop_any (Ok u) (promised r m) h es = let z : ◌≡◌ {A = ℕ} 0 1 = cc in absurd (omega arith)
+drop_any (Ok u) (refused f) h es = cc
+drop_any (Ok u) (promised r m) h es = cc
 drop_any (Ok u) (answered c x y) h es = refl
 drop_any (Ok u) dropped h es = refl
 drop_any (Err f) (refused e) h es = refl
 drop_any (Err f) (promised r m) h es = refl
-drop_any (Err f) (answered c x y) h es = let z : ◌≡◌ {A = ℕ} 0 1 = cc in absurd (omega arith)
-drop_any (Err f) dropped h es = let z : ◌≡◌ {A = ℕ} 0 1 = cc in absurd (omega arith)
+drop_any (Err f) (answered c x y) h es = cc
+drop_any (Err f) dropped h es = cc
 
 any_cond : (x : Bool) (es fs : List End) (b : Bool) → any es ≡ b → any (cond x es fs) ≡ cond x b (any fs)
 any_cond true es fs b h = h
@@ -139,7 +139,7 @@ module _ (L : ℕ) (store : List ℕ) where
   case_is r e z (Some g) [] = refl
 
   answer_case : (r e z : ℕ) (o : Option Given) (es : List End) (b : Option Branch) (s : Bool)
-      → told (answer_shows (checks L) n (3 + 2 * L) (parsed_some o) (any es) b s r e) ≡ answer_case_of o es (branch_or b (fault Reason.WrongPick e)) s r
+      → told (answer_shows (checks L) n (3 + 2 * L) (parsed_some o) (any es) b s r e) ≡ answer_case_of o es (ok_or b (fault Reason.WrongPick e)) s r
   answer_case r e z None es b s = refl
   answer_case r e z (Some g) (x ∷ es) b s = refl
   answer_case r e z (Some g) [] None s = refl

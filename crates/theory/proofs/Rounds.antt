@@ -10,7 +10,7 @@ use Rattle.theory.proofs.Claims.{SameBut, Alike, Complete, Hides}
 use Rattle.theory.proofs.Closing.{closing, length_masks_for, length_products_for, closing_own, closing_before, only_masks}
 use Rattle.theory.proofs.Group.{v, ◌⊞◌, solve}
 use Rattle.theory.proofs.Honest.{same_rerun, length_honest, honest_right, only_honest, Enough}
-use Rattle.theory.proofs.Lists.{length_sum, length_less, shown_sum, three_shares, last_same, zero≢suc, suc≢zero, suc_same}
+use Rattle.theory.proofs.Lists.{length_sum, length_last, shares_long, shown_sum, three_shares, last_same}
 use Rattle.theory.proofs.Sums.{Right, Even, sums}
 
 -- x at e, y at the branch after, z at the one after that
@@ -89,11 +89,11 @@ module _ {E : Type 0} {O : Ops E} (L : Rules O) where
   -- a sum of three may begin at any of them
   turn : (a b c : List E) → length a ≡ length b → length a ≡ length c → sum O (sum O a b) c ≡ sum O (sum O b c) a
   turn [] [] c h k = refl
-  turn [] (y ∷ b) c h k = zero≢suc h
-  turn (x ∷ a) [] c h k = suc≢zero h
-  turn (x ∷ a) (y ∷ b) [] h k = suc≢zero k
+  turn [] (y ∷ b) c h k = cc
+  turn (x ∷ a) [] c h k = cc
+  turn (x ∷ a) (y ∷ b) [] h k = cc
   turn (x ∷ a) (y ∷ b) (z ∷ c) h k =
-      ap₂ {C = List E} (λ t ts. t ∷ ts) (solve L (x ∷ y ∷ z ∷ []) ((v 0 ⊞ v 1) ⊞ v 2) ((v 1 ⊞ v 2) ⊞ v 0) refl) (turn a b c (suc_same h) (suc_same k))
+      ap₂ {C = List E} (λ t ts. t ∷ ts) (solve L (x ∷ y ∷ z ∷ []) ((v 0 ⊞ v 1) ⊞ v 2) ((v 1 ⊞ v 2) ⊞ v 0) refl) (turn a b c (cc) cc)
 
   turned : (n : ℕ) (f : Branch → List E) → ((i : Branch) → length (f i) ≡ n) → (e : Branch) → sum_of O f ≡ sum O (sum O (f e) (f (next e))) (f (next (next e)))
   turned n f h one = refl
@@ -117,12 +117,12 @@ module _ {E : Type 0} {O : Ops E} (L : Rules O) where
       let w : Branch → List E = λ i. rerun O i l.gates (V i) in
       let same : (i j : Branch) → length (w i) ≡ length (w j) = λ i j. same_rerun O i j l.gates (V i) (V j) (h i ∙ sym (h j)) in
       ap (at_outputs O l.outputs) (sums L l.gates l.inputs V h r)
-      ∙ shown_sum L l.outputs (sum O (w one) (w two)) (w three) (length_sum L (w one) (w two) (same one two) ∙ same one three)
+      ∙ shown_sum L l.outputs (sum O (w one) (w two)) (w three) (length_sum O (w one) (w two) (same one two) ∙ same one three)
       ∙ ap (λ t. sum O t (at_outputs O l.outputs (w three))) (shown_sum L l.outputs (w one) (w two) (same one two))
 
   pub sound : Sound O
   sound l y V acc = record {
-    size = length_sum L (sum O (V one).wires (V two).wires) (V three).wires (two_long ∙ h one ∙ sym (h three)) ∙ two_long ∙ h one;
+    size = length_sum O (sum O (V one).wires (V two).wires) (V three).wires (two_long ∙ h one ∙ sym (h three)) ∙ two_long ∙ h one;
     meets =
         views_sum l V h (λ i. (acc i).multiplies)
         ∙ ap (sum_of O) (fun_ext (λ i. (acc i).gives_a))
@@ -133,7 +133,7 @@ module _ {E : Type 0} {O : Ops E} (L : Rules O) where
       h i = (acc i).size_a.shared
 
       two_long : length (sum O (V one).wires (V two).wires) ≡ length (V one).wires
-      two_long = length_sum L (V one).wires (V two).wires (h one ∙ sym (h two))
+      two_long = length_sum O (V one).wires (V two).wires (h one ∙ sym (h two))
 
   -- the keeper's views
   module _ (l : Circuit E) (key : List E) (t : Tape E) (fits : Fits O l key) (sized : TapeFor l t) where
@@ -143,17 +143,15 @@ module _ {E : Type 0} {O : Ops E} (L : Rules O) where
     key_2 : length key ≡ length t.share2
     key_2 = fits.size ∙ sym sized.size2
 
-    shares_long : (i : Branch) → length (shares_of O key t i) ≡ l.inputs
-    shares_long one = sized.size1
-    shares_long two = sized.size2
-    shares_long three = length_less L (less O key t.share1) t.share2 (length_less L key t.share1 key_1 ∙ key_2) ∙ length_less L key t.share1 key_1 ∙ fits.size
+    each_long : (i : Branch) → length (shares_of O key t i) ≡ l.inputs
+    each_long = shares_long O l key t fits.size sized
 
     shares_sum : sum_of O (shares_of O key t) ≡ key
     shares_sum = three_shares L key t.share1 t.share2 key_1 key_2
 
     view_for : (i : Branch) → ViewFor l (view O l key t i)
     view_for i = record {
-      shared = shares_long i;
+      shared = each_long i;
       masked = sized.masked i;
       multiplied = length_honest O l.gates (shares_of O key t) (masks_on t) i;
     }
@@ -163,7 +161,7 @@ module _ {E : Type 0} {O : Ops E} (L : Rules O) where
 
     out_shares_sum : sum_of O (out_shares O l key t) ≡ targets O l.outputs
     out_shares_sum =
-        sym (views_sum l (view O l key t) shares_long view_right)
+        sym (views_sum l (view O l key t) each_long view_right)
         ∙ ap (λ k. at_outputs O l.outputs (plain O l.gates k)) shares_sum
         ∙ fits.meets
 
@@ -213,7 +211,7 @@ module _ {E : Type 0} {O : Ops E} (L : Rules O) where
     u = record { share1 = (W one).wires; share2 = (W two).wires; mask1 = (W one).masks; mask2 = (W two).masks; mask3 = (W three).masks }
 
     long : (i : Branch) → length (view O l key t i).wires ≡ l.inputs
-    long = shares_long l key t fits sized
+    long = shares_long O l key t fits.size sized
 
     w_right : Right O l.gates W
     w_right =
@@ -230,8 +228,7 @@ module _ {E : Type 0} {O : Ops E} (L : Rules O) where
 
     shut_long : length shut ≡ l.inputs
     shut_long =
-        length_less L (less O key' A.wires) B.wires (length_less L key' A.wires a_key ∙ b_key)
-        ∙ length_less L key' A.wires a_key
+        length_last O key' A.wires B.wires a_key b_key
         ∙ fits'.size
 
     w_long : (i : Branch) → length (W i).wires ≡ l.inputs
@@ -274,7 +271,7 @@ module _ {E : Type 0} {O : Ops E} (L : Rules O) where
     u_shares one = refl
     u_shares two = refl
     u_shares three =
-        third_same l.inputs (shares_of O key' u) (λ i. (W i).wires) (shares_long l key' u fits' u_sized) w_long one
+        third_same l.inputs (shares_of O key' u) (λ i. (W i).wires) (shares_long O l key' u fits'.size u_sized) w_long one
         (shares_sum l key' u fits' u_sized ∙ sym w_sum) refl refl
 
     u_views : (i : Branch) → view O l key' u i ≡ W i
@@ -317,7 +314,7 @@ module _ {E : Type 0} {O : Ops E} (L : Rules O) where
       wires_same : (i : Branch) → (Z i).wires ≡ (W i).wires
       wires_same =
           each (λ i. (Z i).wires ≡ (W i).wires) e at_0 at_1
-          (third_same l.inputs (λ i. (Z i).wires) (λ i. (W i).wires) (shares_long l key' z fits' like.sized) w_long e
+          (third_same l.inputs (λ i. (Z i).wires) (λ i. (W i).wires) (shares_long O l key' z fits'.size like.sized) w_long e
           (shares_sum l key' z fits' like.sized ∙ sym w_sum) at_0 at_1)
         where
           at_0 : (Z e).wires ≡ (W e).wires

@@ -1,20 +1,17 @@
 -- Parts of a store, read after a write.
 use Rattle.std.proofs.Common.{◌≡◌, ℕ, ◌+◌, ◌-◌, ◌*◌, ◌≤◌, List, ◌++◌, length, take, drop as skip, sym, refl, ap, ◌∙◌, arith, length-append, length-drop, length-take, take-take, drop-drop, take_at, drop_at}
 use lib.Seq.{drop-append-add, drop-append-le, take-append-le}
-use Rattle.std.proofs.lemmas.List.{drop-take}
+use Rattle.std.proofs.lemmas.List.{drop-take, length-take-le}
 use Rattle.theory.specs.Messages.{behind}
 use Rattle.theory.specs.Runs.{Branch, one, two, three}
 use Rattle.theory.specs.Store.{put, PutLaw}
-
-front_long : (a : ℕ) (s : List ℕ) → a ≤ length s → length (take a s) ≡ a
-front_long a s h = length-take a s ∙ omega arith
 
 pub length_put : (s : List ℕ) (a : ℕ) (x : List ℕ) → a + length x ≤ length s → length (put s a x) ≡ length s
 length_put s a x h = simp (length-append, length-take, length-drop) (omega arith)
 
 -- behind the front of the write
 skip_put : (s : List ℕ) (a : ℕ) (x : List ℕ) (b : ℕ) → a ≤ length s → skip (a + b) (put s a x) ≡ skip b (x ++ skip (a + length x) s)
-skip_put s a x b h = ap (λ k. skip (k + b) (put s a x)) (sym (front_long a s h)) ∙ drop-append-add (take a s) (x ++ skip (a + length x) s) b
+skip_put s a x b h = ap (λ k. skip (k + b) (put s a x)) (sym (length-take-le a s h)) ∙ drop-append-add (take a s) (x ++ skip (a + length x) s) b
 
 pub inside_put : (s : List ℕ) (a : ℕ) (x : List ℕ) (b m : ℕ) → a ≤ length s → b + m ≤ length x → take m (skip (a + b) (put s a x)) ≡ take m (skip b x)
 inside_put s a x b m h k =
@@ -47,7 +44,7 @@ third_of long three = omega arith
 
 pub put_law : (s : List ℕ) (a : ℕ) (x : List ℕ) → a + length x ≤ length s → PutLaw s a x
 put_law s a x h =
-    let front : length (take a s) ≡ a = front_long a s (omega arith) in
+    let front : length (take a s) ≡ a = length-take-le a s (omega arith) in
     record {
       same_length = length_put s a x h;
       before = take_at (take a s) (x ++ skip (a + length x) s) a front;

@@ -4,8 +4,7 @@ use Rattle.std.proofs.lemmas.Bool.{eqb-false, eq-eqb, leb-false, le-leb}
 use Rattle.std.specs.List.{AllByRecursion}
 use Rattle.faults.specs.declared.Reason.{Reason}
 use Rattle.faults.specs.Numbers.{fault}
-use Rattle.faults.specs.Outcomes.{check}
-use Rattle.faults.proofs.Passed.{ok_same}
+use Rattle.faults.specs.Outcomes.{check, and_then}
 use Rattle.kinds.specs.Kind.{Kind, Laws, Lawful}
 use Rattle.locks.specs.Circuit.{Circuit}
 use Rattle.locks.specs.Reading.{lock_of}
@@ -18,7 +17,7 @@ use Rattle.theory.specs.Groups.{group_bytes}
 use Rattle.theory.specs.Messages.{pick_byte, view_of, length_of_key, length_of_view, length_of_first, length_of_answer, length_of_work, outs_in, seal_in, picked_view, next_view}
 use Rattle.theory.specs.Tests.{Verdict, differ}
 use Rattle.theory.specs.Verdict.{messages_right, verified, Accepted}
-use Rattle.theory.specs.Extraction.{read_circuit, extract_then, or_collision, extract_sizes, copy, second_copy, key_from, compared, extracted, key_left, key_after}
+use Rattle.theory.specs.Extraction.{read_circuit, at_pick, or_collision, extract_sizes, copy, second_copy, key_from, compared, extracted, key_left, key_after}
 use Rattle.theory.specs.Soundness.{KeyFits, SoundEnd, small_work1, small_work2, other_key, a_key, a_collision, Soundness}
 use Rattle.theory.proofs.Checked.{differ_same, differ_first}
 use Rattle.theory.proofs.Groups.{sized_as, read_whole}
@@ -45,7 +44,7 @@ module _ (K : Kind) (laws : Laws K) (S : Sealing) (lock fm : List ℕ) (an : Bra
   each e =
       let a = accepted K S lock fm (pick_byte e) (an e) (w1 e) (w2 e) (all e) in
       let pick : a.0 ≡ e = sym (same_pick e a.0 a.1) in
-      let lock-is : a.2.0 ≡ l = ok_same (sym a.2.1.reads ∙ reads) in
+      let lock-is : a.2.0 ≡ l = cc (sym a.2.1.reads ∙ reads) in
       subst (λ x. Accepted K S lock fm e (an e) (w1 e) (w2 e) x) lock-is (subst (λ x. Accepted K S lock fm x (an e) (w1 e) (w2 e) a.2.0) pick a.2.1)
 
   fine : (e : Branch) → messages_right K S l fm e (an e) ≡ Ok tt
@@ -101,7 +100,7 @@ module _ (K : Kind) (laws : Laws K) (S : Sealing) (lock fm : List ℕ) (an : Bra
   on_copies = go (differ (copy K S l an one) (second_copy K S l an one)) (differ (copy K S l an two) (second_copy K S l an two)) (differ (copy K S l an three) (second_copy K S l an three)) refl refl refl
     where
       go : (p q r : Option ℕ) → differ (copy K S l an one) (second_copy K S l an one) ≡ p → differ (copy K S l an two) (second_copy K S l an two) ≡ q → differ (copy K S l an three) (second_copy K S l an three) ≡ r
-          → End (Ok (or_collision p 1 (or_collision q 2 (or_collision r 3 Extracted.Key)))) (key_left (Ok (or_collision p 1 (or_collision q 2 (or_collision r 3 Extracted.Key)))) found key)
+          → End (Ok (or_collision p one (or_collision q two (or_collision r three Extracted.Key)))) (key_left (Ok (or_collision p one (or_collision q two (or_collision r three Extracted.Key)))) found key)
       go (Some o) q r ep eq er = a_collision one o refl refl lowest_one (differ_first _ _ o (size_of_picked one ∙ sym (size_of_next three)) ep) (seal_a one ∙ sym (seal_b three))
       go None (Some o) r ep eq er = a_collision two o refl refl (lowest_two (differ_same _ _ ep)) (differ_first _ _ o (size_of_picked two ∙ sym (size_of_next one)) eq) (seal_a two ∙ sym (seal_b one))
       go None None (Some o) ep eq er = a_collision three o refl refl (lowest_three (differ_same _ _ ep) (differ_same _ _ eq)) (differ_first _ _ o (size_of_picked three ∙ sym (size_of_next two)) er) (seal_a three ∙ sym (seal_b two))
@@ -117,7 +116,7 @@ module _ (K : Kind) (laws : Laws K) (S : Sealing) (lock fm : List ℕ) (an : Bra
   own_sizes b1 b2 b3 = check b1 (fault Reason.WrongSize 5) (check b2 (fault Reason.WrongSize 6) (check b3 (fault Reason.WrongSize 7) (Ok tt)))
 
   at_end : (b1 b2 b3 : Bool) → leb (length_of_work K l) work1 ≡ b1 → leb (length_of_work K l) work2 ≡ b2 → eqb (length key) (length_of_key K l) ≡ b3
-      → End (extract_then 0 (own_sizes b1 b2 b3) (λ _. Ok (compared K S l an))) (key_left (extract_then 0 (own_sizes b1 b2 b3) (λ _. Ok (compared K S l an))) found key)
+      → End (and_then (at_pick None (own_sizes b1 b2 b3)) (λ _. Ok (compared K S l an))) (key_left (and_then (at_pick None (own_sizes b1 b2 b3)) (λ _. Ok (compared K S l an))) found key)
   at_end false b2 b3 e1 e2 e3 = small_work1 (leb-false _ _ e1) refl refl
   at_end true false b3 e1 e2 e3 = small_work2 (leb-false _ _ e2) refl refl
   at_end true true false e1 e2 e3 = other_key (eqb-false _ _ e3) refl refl
@@ -133,13 +132,13 @@ module _ (K : Kind) (laws : Laws K) (S : Sealing) (lock fm : List ℕ) (an : Bra
       (own_sizes (leb (length_of_work K l) work1) (leb (length_of_work K l) work2) (eqb (length key) (length_of_key K l)))))))
 
   pub is : extracted K S lock fm an work1 work2 (length key)
-      ≡ extract_then 0 (own_sizes (leb (length_of_work K l) work1) (leb (length_of_work K l) work2) (eqb (length key) (length_of_key K l))) (λ _. Ok (compared K S l an))
+      ≡ and_then (at_pick None (own_sizes (leb (length_of_work K l) work1) (leb (length_of_work K l) work2) (eqb (length key) (length_of_key K l)))) (λ _. Ok (compared K S l an))
   is =
       let tail : Circuit (List ℕ) → Result Extracted PickFault = λ l.
-      extract_then 0 (extract_sizes K S l (length fm) (length (an one)) (length (an two)) (length (an three)) work1 work2 (length key)) (λ _.
-      extract_then 1 (messages_right K S l fm one (an one)) (λ _. extract_then 2 (messages_right K S l fm two (an two)) (λ _. extract_then 3 (messages_right K S l fm three (an three)) (λ _. Ok (compared K S l an))))) in
-      ap (λ r. extract_then 0 r tail) reads
-      ∙ (λ i. extract_then 0 (sizes i) (λ _. extract_then 1 (fine one i) (λ _. extract_then 2 (fine two i) (λ _. extract_then 3 (fine three i) (λ _. Ok (compared K S l an))))))
+      and_then (at_pick None (extract_sizes K S l (length fm) (length (an one)) (length (an two)) (length (an three)) work1 work2 (length key))) (λ _.
+      and_then (at_pick (Some one) (messages_right K S l fm one (an one))) (λ _. and_then (at_pick (Some two) (messages_right K S l fm two (an two))) (λ _. and_then (at_pick (Some three) (messages_right K S l fm three (an three))) (λ _. Ok (compared K S l an))))) in
+      ap (λ r. and_then (at_pick None r) tail) reads
+      ∙ (λ i. and_then (at_pick None (sizes i)) (λ _. and_then (at_pick (Some one) (fine one i)) (λ _. and_then (at_pick (Some two) (fine two i)) (λ _. and_then (at_pick (Some three) (fine three i)) (λ _. Ok (compared K S l an))))))
 
   reached : End (extracted K S lock fm an work1 work2 (length key)) (key_after K S lock fm an work1 work2 key)
   reached =

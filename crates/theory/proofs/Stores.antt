@@ -11,7 +11,7 @@ use Rattle.theory.specs.Messages.{view_bytes, branch_of, behind}
 use Rattle.theory.specs.Runs.{Branch, one, two, three, next}
 use Rattle.theory.specs.Store.{rounds_in, put, round_at}
 use Rattle.theory.specs.declared.RoundState.{RoundState}
-use Rattle.theory.proofs.Basics.{clash, not_some, either_way}
+use Rattle.theory.proofs.Basics.{either_way}
 use Rattle.theory.proofs.Histories.{round_cases, round_below, blank, earlier, newest, no_promise, yes_promise, promise_view, no_answer, yes_answer, answer_view, no_drop, yes_drop, drop_view}
 use Rattle.theory.proofs.Lists.{length_snoc}
 use Rattle.theory.proofs.Pasts.{Promise, Checks, Move, promise, answer, drop, Message, Shown, promised, answered, opened_view, message, Past, round, after, promise_shows, answer_shows, drop_shows, shows, past, all_shown, Each, Stands}
@@ -54,7 +54,7 @@ fate_more (f ∷ t) (suc zero) = ap (λ b. cond b (Some false) (Some (is_spent f
 fate_more (f ∷ t) (suc (suc q)) = fate_more t (suc q) ∙ ap (λ b. cond b (Some false) (fate t (suc q))) (sym (eqb-suc-suc (suc q) (suc (length t))))
 
 round_above : (ps : List Promise) (q : Promise) → round ps 0 ≡ Some q → ◌≡◌ {A = ℕ} 0 1
-round_above [] q h = not_some h
+round_above [] q h = cc
 round_above (p ∷ ps) q h = round_above ps q (ap (λ b. cond b (Some p) (round ps 0)) (sym (eqb-zero-suc (length ps))) ∙ h)
 
 module _ (ck : Checks) (long : ℕ) (store : List ℕ)
@@ -186,7 +186,7 @@ module _ (ck : Checks) (long : ℕ) (store : List ℕ)
       room = place_in k P a r from top
 
       stays : (q : ℕ) (p' : Promise) → round P.made q ≡ Some p' → (x : Bool) → eqb q r ≡ x → cond x true (P.gone q) ≡ false → (i : Branch) → kept_view (ended k r st) q i ≡ view_bytes p'.kind (opened_view p' i)
-      stays q p' f true e g i = clash refl g
+      stays q p' f true e g i = cc
       stays q p' f false e g i = other_round k P a r q (replicate (3 * k.view_size) 0) zeros from top (round_from P.made q p' f) (apart q r e) i ∙ a.views q p' f g i
 
       free : (q : ℕ) → length P.made < q → (x : Bool) → eqb q r ≡ x → cond x true (P.gone q) ≡ false
@@ -268,7 +268,7 @@ module _ (ck : Checks) (long : ℕ) (store : List ℕ)
     count = refl;
     told = λ q. refl;
     whole = refl;
-    views = λ q p f g i. not_some f;
+    views = λ q p f g i. cc;
     within = omega arith;
     unused = λ q h. refl;
   }

@@ -4,7 +4,7 @@ use Rattle.locks.specs.Circuit.{Gate, ac, mc, ad, mu}
 use Rattle.theory.specs.Algebra.{Ops, Rules}
 use Rattle.theory.specs.Runs.{Branch, one, two, three, next, View, tail, read, head, sum, sum_of, value, plain, share, right, local, step, rerun, due}
 use Rattle.theory.proofs.Group.{v, ◌⊞◌, ⊟◌, solve}
-use Rattle.theory.proofs.Lists.{length_sum, sum_snoc, read_sum}
+use Rattle.theory.proofs.Lists.{length_sum, length_snoc, sum_snoc, read_sum}
 
 module _ {E : Type 0} (O : Ops E) where
   -- each view's products are right
@@ -37,17 +37,17 @@ module _ {E : Type 0} {O : Ops E} (L : Rules O) where
   read_total : (n : ℕ) (V : Branch → View E) → Even n V → (a : ℕ)
       → read O (total V) a ≡ add (add (read O (V one).wires a) (read O (V two).wires a)) (read O (V three).wires a)
   read_total n V h a =
-      read_sum L (sum O (V one).wires (V two).wires) (V three).wires a (length_sum L (V one).wires (V two).wires (h one ∙ sym (h two)) ∙ h one ∙ sym (h three))
+      read_sum L (sum O (V one).wires (V two).wires) (V three).wires a (length_sum O (V one).wires (V two).wires (h one ∙ sym (h two)) ∙ h one ∙ sym (h three))
       ∙ ap (λ t. add t (read O (V three).wires a)) (read_sum L (V one).wires (V two).wires a (h one ∙ sym (h two)))
 
   total_snoc : (n : ℕ) (V : Branch → View E) → Even n V → (x y z : E)
       → sum O (sum O ((V one).wires ++ (x ∷ [])) ((V two).wires ++ (y ∷ []))) ((V three).wires ++ (z ∷ [])) ≡ total V ++ (add (add x y) z ∷ [])
   total_snoc n V h x y z =
       ap (λ t. sum O t ((V three).wires ++ (z ∷ []))) (sum_snoc L (V one).wires (V two).wires x y (h one ∙ sym (h two)))
-      ∙ sum_snoc L (sum O (V one).wires (V two).wires) (V three).wires (add x y) z (length_sum L (V one).wires (V two).wires (h one ∙ sym (h two)) ∙ h one ∙ sym (h three))
+      ∙ sum_snoc L (sum O (V one).wires (V two).wires) (V three).wires (add x y) z (length_sum O (V one).wires (V two).wires (h one ∙ sym (h two)) ∙ h one ∙ sym (h three))
 
   even_on : (n : ℕ) (g : Gate E) (V : Branch → View E) → Even n V → Even (suc n) (steps O g V)
-  even_on n g V h i = Rattle.theory.proofs.Lists.length_snoc (V i).wires _ ∙ ap suc (h i)
+  even_on n g V h i = length_snoc (V i).wires _ ∙ ap suc (h i)
 
   thrice : (a1 a2 a3 b : E) → mul (add (add a1 a2) a3) b ≡ add (add (mul a1 b) (mul a2 b)) (mul a3 b)
   thrice a1 a2 a3 b = simp over_left

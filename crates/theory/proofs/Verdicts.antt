@@ -1,10 +1,10 @@
--- The verdict is acceptance just when Figure 6 holds.
-use Rattle.std.proofs.Common.{◌≡◌, ℕ, zero, suc, ◌+◌, ◌≤◌, true, List, length, get_or, Some, None, Ok, Option, Result, sym, refl, ap, ◌∙◌, arith, length-drop, length-take}
+-- The verdict is acceptance just when the checks hold.
+use Rattle.std.proofs.Common.{◌≡◌, ℕ, zero, suc, ◌+◌, ◌≤◌, true, List, length, get_or, Some, None, Ok, Option, Result, sym, refl, ap, ◌∙◌, arith, length-drop, length-take, ok_or}
 use Rattle.std.proofs.lemmas.Bool.{eqb-true, eq-eqb, leb-true, le-leb}
 use Rattle.std.specs.List.{AllByRecursion}
 use Rattle.faults.specs.declared.Fault.{Fault}
 use Rattle.faults.specs.Outcomes.{and_then}
-use Rattle.faults.proofs.Passed.{check_ok, then_ok, ok_same, err_ok}
+use Rattle.faults.proofs.Passed.{check_ok, then_ok}
 use Rattle.kinds.specs.Kind.{Kind, Lawful}
 use Rattle.kinds.proofs.Same.{same_true}
 use Rattle.locks.specs.Circuit.{Circuit}
@@ -14,8 +14,7 @@ use Rattle.theory.specs.Runs.{Branch, one, two, three, next, View}
 use Rattle.theory.specs.Lawfulness.{ViewLawful}
 use Rattle.theory.specs.Messages.{pick_byte, branch_of, view_of, length_of_view, length_of_first, length_of_answer, length_of_work, outs_in, seal_in, picked_view, next_view}
 use Rattle.theory.specs.Tests.{Verdict, both}
-use Rattle.theory.specs.Verdict.{branch_or, picked, verify_sizes, view_formed, messages_right, verified, Passes, Accepted, VerdictLaw}
-use Rattle.theory.proofs.Basics.{not_some, inside}
+use Rattle.theory.specs.Verdict.{picked, verify_sizes, view_formed, messages_right, verified, Passes, Accepted, VerdictLaw}
 use Rattle.theory.proofs.Checked.{both_ok, both_fine, check_fine, first_none, none_first, group_ok, ok_group, same_bytes, unlike_same, same_unlike, products_right, right_products}
 use Rattle.theory.proofs.Parts.{view_written, view_for, blind_long}
 
@@ -30,15 +29,15 @@ picked_byte two = refl
 picked_byte three = refl
 
 pub pick_branch : (n : ℕ) (e : Branch) → branch_of n ≡ Some e → n ≡ pick_byte e
-pick_branch zero e h = not_some h
-pick_branch (suc zero) e h = ap pick_byte (inside h)
-pick_branch (suc (suc zero)) e h = ap pick_byte (inside h)
-pick_branch (suc (suc (suc zero))) e h = ap pick_byte (inside h)
-pick_branch (suc (suc (suc (suc n)))) e h = not_some h
+pick_branch zero e h = cc
+pick_branch (suc zero) e h = cc
+pick_branch (suc (suc zero)) e h = cc
+pick_branch (suc (suc (suc zero))) e h = cc
+pick_branch (suc (suc (suc (suc n)))) e h = cc
 
-branch_ok : (o : Option Branch) (f : Fault) (e : Branch) → branch_or o f ≡ Ok e → o ≡ Some e
-branch_ok None f e h = err_ok h
-branch_ok (Some b) f e h = ap Some (ok_same h)
+branch_ok : (o : Option Branch) (f : Fault) (e : Branch) → ok_or o f ≡ Ok e → o ≡ Some e
+branch_ok None f e h = cc
+branch_ok (Some b) f e h = cc
 
 pub pick_ok : (n : ℕ) (e : Branch) → picked n ≡ Ok e → n ≡ pick_byte e
 pick_ok n e h = pick_branch n e (branch_ok (branch_of n) _ e h)

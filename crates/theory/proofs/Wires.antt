@@ -6,12 +6,12 @@ use Rattle.locks.specs.Circuit.{Gate, ac, mc, ad, mu, Circuit}
 use Rattle.locks.specs.Encoding.{GatesFor, WellFormed}
 use Rattle.locks.proofs.Spelled.{lock_well_formed}
 use Rattle.theory.specs.Algebra.{Ops, ops_of}
-use Rattle.theory.specs.Runs.{Branch, one, two, three, next, View, rest, read, head, less, value, plain, share, right, plus_constant, local, step, rerun, honest}
+use Rattle.theory.specs.Runs.{Branch, next, View, rest, read, head, value, plain, share, right, plus_constant, local, step, rerun, honest}
 use Rattle.theory.specs.Branches.{Tape, masks_on, shares_of, TapeFor}
 use Rattle.theory.specs.Keeper.{circuit_in, key_in, tape_in}
 use Rattle.theory.specs.Rules.{product_wires}
 use Rattle.theory.specs.Figures.{ValuesHold, GatesHold, Decomposed, FigureLaw}
-use Rattle.theory.proofs.Lists.{length_snoc, suc≢zero, suc_same}
+use Rattle.theory.proofs.Lists.{length_snoc, shares_long}
 use Rattle.theory.proofs.Groups.{counted}
 use Rattle.theory.proofs.Parts.{tape_for}
 
@@ -114,21 +114,9 @@ module _ {E : Type 0} (O : Ops E) where
         ap₂ {C = List E} (λ x xs. x ∷ xs) (sym (here (mu a c) gs w r own l e i))
         (products_are gs (more (mu a c) w r) (λ j. rest (mu a c) (r j)) (suc own) (longer (mu a c) w r own l) (later (mu a c) gs w r e) i)
 
-  length_less : (u w : List E) → length u ≡ length w → length (less O u w) ≡ length u
-  length_less [] w h = refl
-  length_less (x ∷ u) [] h = suc≢zero h
-  length_less (x ∷ u) (y ∷ w) h = ap suc (length_less u w (suc_same h))
-
-  shares_long : (l : Circuit E) (key : List E) (t : Tape E) → length key ≡ l.inputs → TapeFor l t → (i : Branch) → length (shares_of O key t i) ≡ l.inputs
-  shares_long l key t k f one = f.size1
-  shares_long l key t k f two = f.size2
-  shares_long l key t k f three =
-      let first : length (less O key t.share1) ≡ length key = length_less key t.share1 (k ∙ sym f.size1) in
-      length_less (less O key t.share1) t.share2 (first ∙ k ∙ sym f.size2) ∙ first ∙ k
-
   decomposed : (l : Circuit E) (key : List E) (t : Tape E) → length key ≡ l.inputs → TapeFor l t → Below l.inputs l.gates → Decomposed O l key t
   decomposed l key t k f b =
-      let long = shares_long l key t k f in
+      let long = shares_long O l key t k f in
       let W : Branch → List E = λ i. rerun O i l.gates (seen l.gates (shares_of O key t) (masks_on t) i) in
       record {
         wires = W;

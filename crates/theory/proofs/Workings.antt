@@ -24,7 +24,6 @@ use Rattle.theory.specs.History.{call_promise, Told, told_fault, told_round, tol
 use Rattle.theory.specs.Completeness.{Honest}
 use Rattle.theory.specs.Hiding.{Outside}
 use Rattle.theory.specs.Worked.{rows, worked_lock, worked_circuit, with_key, keeper, promised, forged_view, forged_outs, forged_first, forged_answer, WorkedBy, Worked}
-use Rattle.theory.proofs.Basics.{not_some, inside}
 use Rattle.theory.proofs.Checked.{same_bytes}
 use Rattle.theory.proofs.Parts.{seals_read, first_length}
 use Rattle.theory.proofs.Verdicts.{size_fine, accepts}
@@ -44,14 +43,14 @@ check_true : {A : Type 0} (b : Bool) (f : Fault) (X : Result A Fault) → b ≡ 
 check_true b f X h = ap (λ c. check c f X) h
 
 noted_is : (t : Told) (g h : Given) (r : ℕ) → noted t g r None ≡ Some h → g ≡ h
-noted_is (told_fault f) g h r e = not_some e
+noted_is (told_fault f) g h r e = cc
 noted_is (told_round q x) g h r e = go (eqb r q) e
   where
     go : (b : Bool) → mathlib.Core.Bool.cond b (Some g) None ≡ Some h → g ≡ h
-    go true k = inside k
-    go false k = not_some k
-noted_is (told_answer x) g h r e = not_some e
-noted_is told_drop g h r e = not_some e
+    go true k = cc
+    go false k = cc
+noted_is (told_answer x) g h r e = cc
+noted_is told_drop g h r e = cc
 
 word_laws : Laws word_kind
 word_laws = modular_laws 2 4294967296 (omega arith) (omega arith)
@@ -272,17 +271,17 @@ module _ (S : Sealing) (sound : Sound S) (long : 48 ≤ S.longest) where
     };
   })
 
-  forged_1 : verified word_kind S (worked_lock 18) (forged_first S) 1 (forged_answer S one) 16 16 ≡ Err (fault_in 1 Reason.WrongProduct 2)
+  forged_1 : verified word_kind S (worked_lock 18) (forged_first S) 1 (forged_answer S one) 16 16 ≡ Err (fault_in one Reason.WrongProduct 2)
   unfolding gates_from outputs_from group group_bytes element_at view_of view_bytes
   forged_1 =
       let s1 = same_row (S.seal (forged_view S one)) (seal_in word_kind c18 S.size (forged_first S) one) in
       let s2 = same_row (S.seal (forged_view S two)) (seal_in word_kind c18 S.size (forged_first S) two) in
-      let last : Verdict = Err (fault_in 1 Reason.WrongProduct 2) in
-      let more : Verdict = check s1 (fault_in 1 Reason.WrongSeal 0) (check s2 (fault_in 2 Reason.WrongSeal 0) last) in
+      let last : Verdict = Err (fault_in one Reason.WrongProduct 2) in
+      let more : Verdict = check s1 (fault_in one Reason.WrongSeal 0) (check s2 (fault_in two Reason.WrongSeal 0) last) in
       then_fine (verify_sizes word_kind S c18 (length (forged_first S)) (length (forged_answer S one)) 16 16) more
       (size_fine word_kind S c18 {work1 = 16} {work2 = 16} (record { sealable = long; first_size = first_size; answer_size = refl; work1_size = omega arith; work2_size = omega arith }))
-      ∙ check_true s1 (fault_in 1 Reason.WrongSeal 0) (check s2 (fault_in 2 Reason.WrongSeal 0) last) (same_bytes (sym (forged_seal one)))
-      ∙ check_true s2 (fault_in 2 Reason.WrongSeal 0) last (same_bytes (sym (forged_seal two)))
+      ∙ check_true s1 (fault_in one Reason.WrongSeal 0) (check s2 (fault_in two Reason.WrongSeal 0) last) (same_bytes (sym (forged_seal one)))
+      ∙ check_true s2 (fault_in two Reason.WrongSeal 0) last (same_bytes (sym (forged_seal two)))
 
   pub by_sealer : WorkedBy S
   unfolding gates_from outputs_from group group_bytes view_bytes

@@ -3,7 +3,7 @@ use Rattle.std.specs.Prelude.{ℕ, List, [], length, Some, None, Ok, Err, Option
 use Rattle.faults.specs.declared.Fault.{Fault}
 use Rattle.faults.specs.declared.Reason.{Reason}
 use Rattle.faults.specs.Numbers.{fault}
-use Rattle.faults.specs.Outcomes.{check}
+use Rattle.faults.specs.Outcomes.{check, and_then}
 use Rattle.kinds.specs.Kind.{Kind}
 use Rattle.locks.specs.Circuit.{Circuit}
 use Rattle.locks.specs.Reading.{lock_of}
@@ -28,21 +28,21 @@ abbrev pub read_circuit : Result (Circuit (List ℕ)) Fault → Circuit (List �
 read_circuit (Ok l) = l
 read_circuit (Err f) = record { inputs = 0; gates = []; outputs = [] }
 
--- a fault beside the pick that it speaks of, 0 for none
-abbrev pub beside : ℕ → Fault → PickFault
+-- a fault beside the pick that it speaks of, if any
+abbrev pub beside : Option Branch → Fault → PickFault
 beside e f = record { pick = e; fault = f }
 
-abbrev pub extract_then : {A : Type 0} → (pick : ℕ) → Result A Fault → (A → Result Extracted PickFault) → Result Extracted PickFault
-extract_then e (Ok a) x = x a
-extract_then e (Err f) x = Err (beside e f)
+abbrev pub at_pick : {A : Type 0} → (pick : Option Branch) → Result A Fault → Result A PickFault
+at_pick e (Ok a) = Ok a
+at_pick e (Err f) = Err (beside e f)
 
 -- the first differing offset of branch b's copies, or what comes after
-abbrev pub or_collision : Option ℕ → ℕ → Extracted → Extracted
+abbrev pub or_collision : Option ℕ → Branch → Extracted → Extracted
 or_collision None b x = x
 or_collision (Some o) b x = Extracted.Collision b o
 
 module _ (K : Kind) (S : Sealing) (l : Circuit (List ℕ)) where
-  -- 7: the verifier's sizes for three answers, then the key buffer's
+  -- the verifier's sizes for three answers, then the key buffer's
   abbrev pub extract_sizes : (first answer1 answer2 answer3 work1 work2 key : ℕ) → Verdict
   extract_sizes first answer1 answer2 answer3 work1 work2 key =
       check (nat_le (length_of_view K l) S.longest) (fault Reason.WrongSize 0)
@@ -68,18 +68,18 @@ module _ (K : Kind) (S : Sealing) (l : Circuit (List ℕ)) where
   -- the lowest branch whose copies differ; if there is none, the key
   abbrev pub compared : (Branch → List ℕ) → Extracted
   compared an =
-      or_collision (differ (copy an one) (second_copy an one)) 1
-      (or_collision (differ (copy an two) (second_copy an two)) 2
-      (or_collision (differ (copy an three) (second_copy an three)) 3 Extracted.Key))
+      or_collision (differ (copy an one) (second_copy an one)) one
+      (or_collision (differ (copy an two) (second_copy an two)) two
+      (or_collision (differ (copy an three) (second_copy an three)) three Extracted.Key))
 
 -- answers to picks 1, 2, 3; `work1`, `work2` and `key` are lengths
 abbrev pub extracted : Kind → Sealing → (lock fm : List ℕ) (an : Branch → List ℕ) (work1 work2 key : ℕ) → Result Extracted PickFault
 extracted K S lock fm an work1 work2 key =
-    extract_then 0 (lock_of K lock) (λ l.
-    extract_then 0 (extract_sizes K S l (length fm) (length (an one)) (length (an two)) (length (an three)) work1 work2 key) (λ _.
-    extract_then 1 (messages_right K S l fm one (an one)) (λ _.
-    extract_then 2 (messages_right K S l fm two (an two)) (λ _.
-    extract_then 3 (messages_right K S l fm three (an three)) (λ _.
+    and_then (at_pick None (lock_of K lock)) (λ l.
+    and_then (at_pick None (extract_sizes K S l (length fm) (length (an one)) (length (an two)) (length (an three)) work1 work2 key)) (λ _.
+    and_then (at_pick (Some one) (messages_right K S l fm one (an one))) (λ _.
+    and_then (at_pick (Some two) (messages_right K S l fm two (an two))) (λ _.
+    and_then (at_pick (Some three) (messages_right K S l fm three (an three))) (λ _.
     Ok (compared K S l an))))))
 
 -- the key buffer afterwards: written where the outcome is a key, else as it was

@@ -80,7 +80,7 @@ module _ (g : Given) where
   abbrev pub own_answer : Branch → List ℕ
   own_answer e = answer_bytes e (own_view_bytes e) (own_view_bytes (next e))
 
-  -- 7, but for the keeper's view length
+  -- the sizes, but for the keeper's view length
   abbrev pub promise_sizes : Circuit (List ℕ) → Verdict
   promise_sizes l =
       check (nat_le (length_of_view g.kind l) g.sealing.longest) (fault Reason.WrongSize 0)
@@ -91,13 +91,13 @@ module _ (g : Given) where
       (check (nat_le (length_of_work g.kind l) g.work3) (fault Reason.WrongSize 5)
       (check (g.first == length_of_first g.kind l g.sealing.size) (fault Reason.WrongSize 6) (Ok tt)))))))
 
--- 12: lawful key elements, told by index; 13: every output wire has its target
+-- lawful key elements, told by index; then every output wire has its target
 abbrev pub key_right : Kind → Circuit (List ℕ) → (key : List (List ℕ)) → Verdict
 key_right K l key =
     both (first_at (unlawful K key) (λ i. fault Reason.UnlawfulKey i))
     (first_at (unlike (at_outputs (ops_of K) l.outputs (plain (ops_of K) l.gates key)) (targets (ops_of K) l.outputs)) (λ i. fault Reason.KeyDoesNotFit i))
 
--- 14: lawful tape elements, told by offset
+-- lawful tape elements, told by offset
 abbrev pub tape_right : Kind → Circuit (List ℕ) → Tape (List ℕ) → Verdict
 tape_right K l t =
     both (lawful_at K Reason.UnlawfulTape (tape_shares_at K l one) t.share1)
@@ -106,7 +106,7 @@ tape_right K l t =
     (both (lawful_at K Reason.UnlawfulTape (tape_masks_at K l two) t.mask2)
     (lawful_at K Reason.UnlawfulTape (tape_masks_at K l three) t.mask3))))
 
--- the round's number: 1 to 7, 11, 12, 13, 14
+-- the round's number: lock, sizes, room in the keeper, key and tape are looked at in this order
 abbrev pub promise_result : Keeper → Given → Result ℕ Fault
 promise_result k g =
     and_then (lock_of g.kind g.lock) (λ l.
@@ -146,7 +146,7 @@ with_state (s ∷ t) zero n = s ∷ t
 with_state (s ∷ t) (suc zero) n = n ∷ t
 with_state (s ∷ t) (suc (suc r)) n = s ∷ with_state t (suc r) n
 
--- 9, 10
+-- only a promised round that was neither answered nor dropped is open
 abbrev pub open_by : ℕ → Option RoundState → Verdict
 open_by r None = Err (fault Reason.UnknownRound r)
 open_by r (Some RoundState.Promised) = Ok tt
@@ -159,7 +159,7 @@ round_open k r = open_by r (state_of k.table r)
 abbrev pub answer_size_for : Keeper → ℕ
 answer_size_for k = 3 + 2 * k.view_size
 
--- the picked branch: 9, 10, 8, 7
+-- the picked branch: round, pick and size are looked at in this order
 abbrev pub answer_branch : Keeper → (r pick size : ℕ) → Result Branch Fault
 answer_branch k r pick size =
     and_then (round_open k r) (λ _.
@@ -189,7 +189,6 @@ ended k r s = record {
 abbrev pub after_answer : Keeper → (r pick size : ℕ) → Keeper
 after_answer k r pick size = left (answer_branch k r pick size) (λ _. ended k r RoundState.Answered) k
 
--- 9, 10
 abbrev pub drop_result : Keeper → ℕ → Verdict
 drop_result k r = round_open k r
 

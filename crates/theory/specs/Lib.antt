@@ -9,6 +9,7 @@ pub mod Verdict
 pub mod Extraction
 pub mod Store
 pub mod Keeper
+pub mod Records
 pub mod Soundness
 pub mod History
 pub mod Completeness

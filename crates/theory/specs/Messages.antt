@@ -1,5 +1,5 @@
 -- Keys, views, tapes, first messages and answers as bytes, and back.
-use Rattle.std.specs.Prelude.{◌≡◌, ℕ, zero, suc, ◌+◌, ◌*◌, List, [], ◌∷◌, ◌++◌, length, take, drop, Some, None, Option}
+use Rattle.std.specs.Prelude.{◌≡◌, ℕ, ◌+◌, ◌*◌, List, [], ◌∷◌, ◌++◌, length, take, drop}
 use Rattle.std.specs.List.{AllByRecursion}
 use Rattle.kinds.specs.Kind.{Kind, Laws, Lawful}
 use Rattle.kinds.specs.Groups.{group_length}
@@ -9,24 +9,7 @@ use Rattle.theory.specs.Runs.{Branch, one, two, three, View}
 use Rattle.theory.specs.Branches.{Tape, ViewFor, TapeFor}
 use Rattle.theory.specs.Lawfulness.{ViewLawful, TapeLawful}
 use Rattle.theory.specs.Groups.{group, group_bytes}
-
--- how many branches stand before one
-abbrev pub behind : Branch → ℕ
-behind one = 0
-behind two = 1
-behind three = 2
-
-abbrev pub pick_byte : Branch → ℕ
-pick_byte one = 1
-pick_byte two = 2
-pick_byte three = 3
-
-abbrev pub branch_of : ℕ → Option Branch
-branch_of zero = None
-branch_of (suc zero) = Some one
-branch_of (suc (suc zero)) = Some two
-branch_of (suc (suc (suc zero))) = Some three
-branch_of (suc (suc (suc (suc n)))) = None
+pub use Rattle.faults.specs.Branches.{behind, pick_byte, branch_of}
 
 -- a view with its blind in front
 abbrev pub Blinded : Type 0

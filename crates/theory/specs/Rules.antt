@@ -1,6 +1,6 @@
 -- Which condition each fault of each call stands for: the rules in their order, as statements. A call is accepted exactly when all rules
 -- are kept; it refuses by the fault of the first that is broken.
-use Rattle.std.specs.Prelude.{◌≡◌, ℕ, suc, ◌+◌, ◌*◌, ◌<◌, ◌≤◌, true, ◌⊎◌, List, [], ◌∷◌, ◌++◌, length, take, Some, None, Ok, Err, Result, ◌≢◌, slice_index, slice_index_or}
+use Rattle.std.specs.Prelude.{◌≡◌, ℕ, suc, ◌+◌, ◌*◌, ◌<◌, ◌≤◌, true, ◌⊎◌, List, [], ◌∷◌, ◌++◌, length, take, Some, None, Ok, Err, Result, ◌≢◌, slice_index, slice_index_or, Option}
 use Rattle.std.specs.List.{AllByRecursion}
 use Rattle.faults.specs.declared.Fault.{Fault}
 use Rattle.faults.specs.declared.Reason.{Reason}
@@ -51,12 +51,13 @@ all_lawful K at es = record {
   broken = λ f. (i : ℕ) × (i < length es) × AllByRecursion (Lawful K) (take i es) × (Lawful K (slice_index_or es i []) → ⊥) × (f ≡ at i);
 }
 
--- two lists of rows are equal; the first difference tells its place
-abbrev pub DifferFirst : (xs ys : List (List ℕ)) → ℕ → Type 0
-DifferFirst xs ys i = (i < length xs) × (take i xs ≡ take i ys) × (slice_index_or xs i [] ≢ slice_index_or ys i [])
+-- two lists differ first at a place; d stands behind their ends
+abbrev pub DifferFirst : {A : Type 0} → (d : A) (xs ys : List A) → ℕ → Type 0
+DifferFirst d xs ys i = (i < length xs) × (take i xs ≡ take i ys) × (slice_index_or xs i d ≢ slice_index_or ys i d)
 
+-- two lists of rows are equal; the first difference tells its place
 abbrev pub all_equal : (ℕ → Fault) → (xs ys : List (List ℕ)) → Rule Fault
-all_equal at xs ys = record { kept = xs ≡ ys; broken = λ f. (i : ℕ) × DifferFirst xs ys i × (f ≡ at i) }
+all_equal at xs ys = record { kept = xs ≡ ys; broken = λ f. (i : ℕ) × DifferFirst [] xs ys i × (f ≡ at i) }
 
 -- the wires of the MU gates, where the first gate writes wire `own`
 abbrev pub product_wires : {E : Type 0} → (own : ℕ) → List (Gate E) → List ℕ
@@ -103,11 +104,11 @@ module _ (K : Kind) (S : Sealing) (l : Circuit (List ℕ)) where
       ∷ must (slice_index an 2 ≡ pick_byte e) (fault Reason.MalformedAnswer 2)
       ∷ view_rules 3 A ++ (view_rules (3 + length_of_view K l) B ++ (
       all_equal (λ i. fault Reason.MissedTarget i) (sum_of (ops_of K) y) (targets (ops_of K) l.outputs)
-      ∷ must (S.seal (picked_view K l an) ≡ seal_in K l S.size fm e) (fault_in (pick_byte e) Reason.WrongSeal 0)
-      ∷ must (S.seal (next_view K l an) ≡ seal_in K l S.size fm (next e)) (fault_in (pick_byte (next e)) Reason.WrongSeal 0)
-      ∷ all_equal (λ i. fault_in (pick_byte e) Reason.WrongOutputShare i) (at_outputs (ops_of K) l.outputs (rerun (ops_of K) e l.gates A)) (y e)
-      ∷ all_equal (λ i. fault_in (pick_byte (next e)) Reason.WrongOutputShare i) (at_outputs (ops_of K) l.outputs (rerun (ops_of K) (next e) l.gates B)) (y (next e))
-      ∷ all_equal (λ i. fault_in (pick_byte e) Reason.WrongProduct (slice_index (product_wires l.inputs l.gates) i)) A.products (due (ops_of K) e (next e) l.gates A B)
+      ∷ must (S.seal (picked_view K l an) ≡ seal_in K l S.size fm e) (fault_in e Reason.WrongSeal 0)
+      ∷ must (S.seal (next_view K l an) ≡ seal_in K l S.size fm (next e)) (fault_in (next e) Reason.WrongSeal 0)
+      ∷ all_equal (λ i. fault_in e Reason.WrongOutputShare i) (at_outputs (ops_of K) l.outputs (rerun (ops_of K) e l.gates A)) (y e)
+      ∷ all_equal (λ i. fault_in (next e) Reason.WrongOutputShare i) (at_outputs (ops_of K) l.outputs (rerun (ops_of K) (next e) l.gates B)) (y (next e))
+      ∷ all_equal (λ i. fault_in e Reason.WrongProduct (slice_index (product_wires l.inputs l.gates) i)) A.products (due (ops_of K) e (next e) l.gates A B)
       ∷ []))
 
   abbrev pub extract_size_rules : (first answer1 answer2 answer3 work1 work2 key : ℕ) → List (Rule Fault)
@@ -123,7 +124,7 @@ module _ (K : Kind) (S : Sealing) (l : Circuit (List ℕ)) where
       ∷ []
 
 -- the same rules, with the pick beside each fault
-abbrev pub beside_pick : ℕ → List (Rule Fault) → List (Rule PickFault)
+abbrev pub beside_pick : Option Branch → List (Rule Fault) → List (Rule PickFault)
 beside_pick e [] = []
 beside_pick e (r ∷ rs) = record { kept = r.kept; broken = λ x. (f : Fault) × (r.broken f) × (x ≡ beside e f) } ∷ beside_pick e rs
 
@@ -161,15 +162,15 @@ pub record RulesLaw : Type 0 where
   -- a lock that is refused refuses every call that reads one
   pub lock_first : (K : Kind) (S : Sealing) (lock : List ℕ) (f : Fault) → lock_of K lock ≡ Err f
       → ((fm : List ℕ) (pick : ℕ) (an : List ℕ) (work1 work2 : ℕ) → verified K S lock fm pick an work1 work2 ≡ Err f)
-      × ((fm : List ℕ) (an : Branch → List ℕ) (work1 work2 key : ℕ) → extracted K S lock fm an work1 work2 key ≡ Err (beside 0 f))
+      × ((fm : List ℕ) (an : Branch → List ℕ) (work1 work2 key : ℕ) → extracted K S lock fm an work1 work2 key ≡ Err (beside None f))
       × ((k : Keeper) (g : Given) → g.kind ≡ K → g.lock ≡ lock → promise_result k g ≡ Err f)
   pub verifying : (K : Kind) (S : Sealing) (lock : List ℕ) (l : Circuit (List ℕ)) → lock_of K lock ≡ Ok l → (fm : List ℕ) (e : Branch) (an : List ℕ) (work1 work2 : ℕ)
       → Judged (verify_size_rules K S l (length fm) (length an) work1 work2 ++ message_rules K S l fm e an) tt (verified K S lock fm (pick_byte e) an work1 work2)
   pub verifying_no_pick : (K : Kind) (S : Sealing) (lock : List ℕ) (l : Circuit (List ℕ)) → lock_of K lock ≡ Ok l → (fm : List ℕ) (pick : ℕ) (an : List ℕ) (work1 work2 : ℕ) → (IsPick pick → ⊥)
       → Judged (verify_size_rules K S l (length fm) (length an) work1 work2 ++ (must (IsPick pick) (fault Reason.WrongPick pick) ∷ [])) tt (verified K S lock fm pick an work1 work2)
   pub extracting : (K : Kind) (S : Sealing) (lock : List ℕ) (l : Circuit (List ℕ)) → lock_of K lock ≡ Ok l → (fm : List ℕ) (an : Branch → List ℕ) (work1 work2 key : ℕ)
-      → Judged (beside_pick 0 (extract_size_rules K S l (length fm) (length (an one)) (length (an two)) (length (an three)) work1 work2 key)
-      ++ (beside_pick 1 (message_rules K S l fm one (an one)) ++ (beside_pick 2 (message_rules K S l fm two (an two)) ++ beside_pick 3 (message_rules K S l fm three (an three)))))
+      → Judged (beside_pick None (extract_size_rules K S l (length fm) (length (an one)) (length (an two)) (length (an three)) work1 work2 key)
+      ++ (beside_pick (Some one) (message_rules K S l fm one (an one)) ++ (beside_pick (Some two) (message_rules K S l fm two (an two)) ++ beside_pick (Some three) (message_rules K S l fm three (an three)))))
       (compared K S l an) (extracted K S lock fm an work1 work2 key)
   pub promising : (k : Keeper) (g : Given) (l : Circuit (List ℕ)) → lock_of g.kind g.lock ≡ Ok l → Judged (promise_rules k g l) (suc (length k.table)) (promise_result k g)
   pub answering : (k : Keeper) (r : ℕ) (e : Branch) (size : ℕ)

@@ -1,15 +1,10 @@
--- The gates of a circuit, run plainly and by three branches (the linear decomposition of the ZKBoo paper's Figure 4).
+-- The gates of a circuit, run plainly and by three branches.
 use Rattle.std.specs.Prelude.{◌≡◌, ℕ, List, [], ◌∷◌, ◌++◌, map, length, slice_index_or}
 use Rattle.locks.specs.Circuit.{Gate, ac, mc, ad, mu, Output, Circuit}
 use Rattle.theory.specs.Algebra.{Ops}
-pub use Rattle.theory.specs.declared.Branch.{Branch}
-pub use Rattle.theory.specs.declared.Branch.TheVariants.{One as one, Two as two, Three as three}
-
--- the branch after
-abbrev pub next : Branch → Branch
-next one = two
-next two = three
-next three = one
+pub use Rattle.faults.specs.declared.Branch.{Branch}
+pub use Rattle.faults.specs.declared.Branch.TheVariants.{One as one, Two as two, Three as three}
+pub use Rattle.faults.specs.Branches.{next}
 
 -- a branch's view without its blind: its shares (which grow to all its wires as the gates run), masks, products
 pub record View (E : Type 0) : Type 0 where

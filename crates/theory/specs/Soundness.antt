@@ -1,5 +1,5 @@
 -- Soundness: three accepted answers to one first message give a fitting key, or two views with one seal.
-use Rattle.std.specs.Prelude.{◌≡◌, ℕ, ◌<◌, List, length, take, Ok, Err, Result, ◌≢◌, slice_index}
+use Rattle.std.specs.Prelude.{◌≡◌, ℕ, ◌<◌, List, length, take, Ok, Err, Result, ◌≢◌, slice_index, None}
 use Rattle.std.specs.List.{AllByRecursion}
 use Rattle.faults.specs.declared.Reason.{Reason}
 use Rattle.faults.specs.Numbers.{fault}
@@ -29,13 +29,13 @@ module _ (K : Kind) (S : Sealing) (l : Circuit (List ℕ)) (an : Branch → List
   -- what may come of it: the outcome, and the key buffer afterwards
   pub data SoundEnd (outcome : Result Extracted PickFault) (after : List ℕ) : Type 0 where
     -- a work slice or the key buffer has a wrong size
-    small_work1 : work1 < length_of_work K l → outcome ≡ Err (beside 0 (fault Reason.WrongSize 5)) → after ≡ key → SoundEnd outcome after
-    small_work2 : work2 < length_of_work K l → outcome ≡ Err (beside 0 (fault Reason.WrongSize 6)) → after ≡ key → SoundEnd outcome after
-    other_key : (length key ≢ length_of_key K l) → outcome ≡ Err (beside 0 (fault Reason.WrongSize 7)) → after ≡ key → SoundEnd outcome after
+    small_work1 : work1 < length_of_work K l → outcome ≡ Err (beside None (fault Reason.WrongSize 5)) → after ≡ key → SoundEnd outcome after
+    small_work2 : work2 < length_of_work K l → outcome ≡ Err (beside None (fault Reason.WrongSize 6)) → after ≡ key → SoundEnd outcome after
+    other_key : (length key ≢ length_of_key K l) → outcome ≡ Err (beside None (fault Reason.WrongSize 7)) → after ≡ key → SoundEnd outcome after
     -- a key is written, and it fits
     a_key : outcome ≡ Ok Extracted.Key → KeyFits K l after → SoundEnd outcome after
     -- the lowest branch whose two copies differ, where they first do; they have one seal
-    a_collision : (i : Branch) (o : ℕ) → outcome ≡ Ok (Extracted.Collision (pick_byte i) o) → after ≡ key
+    a_collision : (i : Branch) (o : ℕ) → outcome ≡ Ok (Extracted.Collision i o) → after ≡ key
         → ((j : Branch) → pick_byte j < pick_byte i → copy K S l an j ≡ second_copy K S l an j)
         → FirstUnlike (copy K S l an i) (second_copy K S l an i) o
         → S.seal (copy K S l an i) ≡ S.seal (second_copy K S l an i)

@@ -1,5 +1,5 @@
 -- Tests in their order, and the first thing that is wrong.
-use Rattle.std.specs.Prelude.{ℕ, suc, ◌+◌, cond, List, [], ◌∷◌, Some, None, Ok, Err, Option, Result, ◌==◌}
+use Rattle.std.specs.Prelude.{ℕ, suc, ◌+◌, Bool, cond, List, [], ◌∷◌, Some, None, Ok, Err, Option, Result, ◌==◌}
 use Rattle.faults.specs.declared.Fault.{Fault}
 use Rattle.faults.specs.declared.Reason.{Reason}
 use Rattle.faults.specs.Numbers.{fault}
@@ -33,19 +33,19 @@ unlawful K (x ∷ xs) = cond (K.lawful x) (later (unlawful K xs)) (Some 0)
 abbrev pub lawful_at : Kind → Reason → (at : ℕ) → List (List ℕ) → Verdict
 lawful_at K r at es = first_at (unlawful K es) (λ i. fault r (at + element_at K i))
 
--- the first offset at which two byte lists differ
-abbrev pub differ : List ℕ → List ℕ → Option ℕ
-differ [] [] = None
-differ [] (y ∷ ys) = Some 0
-differ (x ∷ xs) [] = Some 0
-differ (x ∷ xs) (y ∷ ys) = cond (x == y) (later (differ xs ys)) (Some 0)
+-- the first place at which two lists differ, by a test of their elements
+abbrev pub unlike_by : {A : Type 0} → (same : A → A → Bool) → (xs ys : List A) → Option ℕ
+unlike_by same [] [] = None
+unlike_by same [] (y ∷ ys) = Some 0
+unlike_by same (x ∷ xs) [] = Some 0
+unlike_by same (x ∷ xs) (y ∷ ys) = cond (same x y) (later (unlike_by same xs ys)) (Some 0)
 
--- the first place at which two lists of rows differ
-abbrev pub unlike : List (List ℕ) → List (List ℕ) → Option ℕ
-unlike [] [] = None
-unlike [] (y ∷ ys) = Some 0
-unlike (x ∷ xs) [] = Some 0
-unlike (x ∷ xs) (y ∷ ys) = cond (same_row x y) (later (unlike xs ys)) (Some 0)
+-- of bytes, and of rows
+abbrev pub differ : (xs ys : List ℕ) → Option ℕ
+differ xs ys = unlike_by (λ x y. x == y) xs ys
+
+abbrev pub unlike : (xs ys : List (List ℕ)) → Option ℕ
+unlike xs ys = unlike_by same_row xs ys
 
 -- what a call leaves in a buffer, a store or a table: new if it was accepted, else what stood there
 abbrev pub left : {A B : Type 0} → Result A Fault → (A → B) → B → B

@@ -1,7 +1,6 @@
--- What verify answers, with all its faults in their order; and the same as a relation, Figure 6 of the ZKBoo paper.
-use Rattle.std.specs.Prelude.{◌≡◌, ℕ, suc, ◌+◌, ◌≤◌, Bool, true, cond, List, [], ◌∷◌, length, Some, None, Ok, Err, Option, Result, ◌==◌, nat_le, slice_index, slice_index_or}
+-- What verify answers, with all its faults in their order; and the same as a relation.
+use Rattle.std.specs.Prelude.{◌≡◌, ℕ, suc, ◌+◌, ◌≤◌, Bool, true, cond, List, [], ◌∷◌, length, Some, None, Ok, Option, ◌==◌, nat_le, slice_index, slice_index_or}
 use Rattle.std.specs.List.{AllByRecursion}
-use Rattle.faults.specs.declared.Fault.{Fault}
 use Rattle.faults.specs.declared.Reason.{Reason}
 use Rattle.faults.specs.Numbers.{fault, fault_in}
 use Rattle.faults.specs.Outcomes.{check, and_then}
@@ -13,8 +12,9 @@ use Rattle.theory.specs.Algebra.{ops_of}
 use Rattle.theory.specs.Runs.{Branch, one, two, three, next, View, head, sum_of, at_outputs, targets, right, step, rerun}
 use Rattle.theory.specs.Branches.{Accepts}
 use Rattle.theory.specs.Lawfulness.{ViewLawful}
-use Rattle.theory.specs.Messages.{pick_byte, branch_of, Blinded, view_bytes, view_of, length_of_view, length_of_first, length_of_answer, length_of_work, shares_at, masks_at, products_at, outs_at, outs_in, seal_in, picked_view, next_view}
+use Rattle.theory.specs.Messages.{pick_byte, Blinded, view_bytes, view_of, length_of_view, length_of_first, length_of_answer, length_of_work, shares_at, masks_at, products_at, outs_at, outs_in, seal_in, picked_view, next_view}
 use Rattle.theory.specs.Tests.{Verdict, both, first_at, lawful_at, unlike}
+pub use Rattle.faults.specs.Branches.{picked}
 
 -- is p the product that the gate asks for? Gates without one ask for nothing
 abbrev pub is_right : Kind → Gate (List ℕ) → (A B : View (List ℕ)) → Bool
@@ -29,16 +29,8 @@ wrong_product K i n own [] A B = None
 wrong_product K i n own (g ∷ gs) A B =
     cond (is_right K g A B) (wrong_product K i n (suc own) gs (step (ops_of K) i g A) (step (ops_of K) n g B)) (Some own)
 
--- the pick, as a branch
-abbrev pub branch_or : Option Branch → Fault → Result Branch Fault
-branch_or None f = Err f
-branch_or (Some b) f = Ok b
-
-abbrev pub picked : ℕ → Result Branch Fault
-picked e = branch_or (branch_of e) (fault Reason.WrongPick e)
-
 module _ (K : Kind) (S : Sealing) (l : Circuit (List ℕ)) where
-  -- 7: the view within the sealer's longest message, and the buffers' sizes
+  -- the view within the sealer's longest message, and the buffers' sizes
   abbrev pub verify_sizes : (first answer work1 work2 : ℕ) → Verdict
   verify_sizes first answer work1 work2 =
       check (nat_le (length_of_view K l) S.longest) (fault Reason.WrongSize 0)
@@ -47,7 +39,7 @@ module _ (K : Kind) (S : Sealing) (l : Circuit (List ℕ)) where
       (check (nat_le (length_of_work K l) work1) (fault Reason.WrongSize 3)
       (check (nat_le (length_of_work K l) work2) (fault Reason.WrongSize 4) (Ok tt)))))
 
-  -- 15: the mark, then the elements of branches 1, 2, 3
+  -- the mark, then the elements of branches 1, 2, 3
   abbrev pub first_formed : (fm : List ℕ) → Verdict
   first_formed fm =
       check (marked 70 77 fm) (fault Reason.MalformedFirstMessage 0)
@@ -62,7 +54,7 @@ module _ (K : Kind) (S : Sealing) (l : Circuit (List ℕ)) where
       (both (lawful_at K Reason.MalformedAnswer (at + masks_at K l) A.masks)
       (lawful_at K Reason.MalformedAnswer (at + products_at K l) A.products))
 
-  -- 16: the mark, the pick, then the elements of both views
+  -- the mark, the pick, then the elements of both views
   abbrev pub answer_formed : Branch → (an : List ℕ) → Verdict
   answer_formed e an =
       check (marked 65 78 an) (fault Reason.MalformedAnswer 0)
@@ -70,20 +62,20 @@ module _ (K : Kind) (S : Sealing) (l : Circuit (List ℕ)) where
       (both (view_formed 3 (view_of K l (picked_view K l an)).1)
       (view_formed (3 + length_of_view K l) (view_of K l (next_view K l an)).1)))
 
-  -- 17 to 20: output shares and targets, seals, reruns, products; of the views the picked one first
+  -- output shares and targets, seals, reruns, products; of the views the picked one first
   abbrev pub figure_holds : (fm : List ℕ) → Branch → (an : List ℕ) → Verdict
   figure_holds fm e an =
       let y : Branch → List (List ℕ) = outs_in K l fm in
       let A : View (List ℕ) = (view_of K l (picked_view K l an)).1 in
       let B : View (List ℕ) = (view_of K l (next_view K l an)).1 in
       both (first_at (unlike (sum_of (ops_of K) y) (targets (ops_of K) l.outputs)) (λ i. fault Reason.MissedTarget i))
-      (check (same_row (S.seal (picked_view K l an)) (seal_in K l S.size fm e)) (fault_in (pick_byte e) Reason.WrongSeal 0)
-      (check (same_row (S.seal (next_view K l an)) (seal_in K l S.size fm (next e))) (fault_in (pick_byte (next e)) Reason.WrongSeal 0)
-      (both (first_at (unlike (at_outputs (ops_of K) l.outputs (rerun (ops_of K) e l.gates A)) (y e)) (λ i. fault_in (pick_byte e) Reason.WrongOutputShare i))
-      (both (first_at (unlike (at_outputs (ops_of K) l.outputs (rerun (ops_of K) (next e) l.gates B)) (y (next e))) (λ i. fault_in (pick_byte (next e)) Reason.WrongOutputShare i))
-      (first_at (wrong_product K e (next e) l.inputs l.gates A B) (λ w. fault_in (pick_byte e) Reason.WrongProduct w))))))
+      (check (same_row (S.seal (picked_view K l an)) (seal_in K l S.size fm e)) (fault_in e Reason.WrongSeal 0)
+      (check (same_row (S.seal (next_view K l an)) (seal_in K l S.size fm (next e))) (fault_in (next e) Reason.WrongSeal 0)
+      (both (first_at (unlike (at_outputs (ops_of K) l.outputs (rerun (ops_of K) e l.gates A)) (y e)) (λ i. fault_in e Reason.WrongOutputShare i))
+      (both (first_at (unlike (at_outputs (ops_of K) l.outputs (rerun (ops_of K) (next e) l.gates B)) (y (next e))) (λ i. fault_in (next e) Reason.WrongOutputShare i))
+      (first_at (wrong_product K e (next e) l.inputs l.gates A B) (λ w. fault_in e Reason.WrongProduct w))))))
 
-  -- 15 to 20, of the messages alone
+  -- all of it, of the messages alone
   abbrev pub messages_right : (fm : List ℕ) → Branch → (an : List ℕ) → Verdict
   messages_right fm e an = both (first_formed fm) (both (answer_formed e an) (figure_holds fm e an))
 
@@ -94,7 +86,7 @@ verified K S lock fm pick an work1 work2 =
     both (verify_sizes K S l (length fm) (length an) work1 work2)
     (and_then (picked pick) (λ e. messages_right K S l fm e an)))
 
--- Figure 6, with the seals: of output shares y and seals z, the views a and b of branch e and of the one after it
+-- the checks with the seals: of output shares y and seals z, the views a and b of branch e and of the one after it
 pub record Passes (K : Kind) (S : Sealing) (l : Circuit (List ℕ)) (y : Branch → List (List ℕ)) (z : Branch → List ℕ) (e : Branch) (a b : Blinded) : Type 0 where
   pub blind_a : length a.0 ≡ 32
   pub blind_b : length b.0 ≡ 32
@@ -104,7 +96,7 @@ pub record Passes (K : Kind) (S : Sealing) (l : Circuit (List ℕ)) (y : Branch 
   pub seal_a : S.seal (view_bytes K a) ≡ z e
   pub seal_b : S.seal (view_bytes K b) ≡ z (next e)
 
--- the messages are well-formed and the checks of Figure 6 hold of what they say
+-- the messages are well-formed and the checks hold of what they say
 pub record Accepted (K : Kind) (S : Sealing) (lock fm : List ℕ) (e : Branch) (an : List ℕ) (work1 work2 : ℕ) (l : Circuit (List ℕ)) : Type 0 where
   pub reads : lock_of K lock ≡ Ok l
   pub sealable : length_of_view K l ≤ S.longest

@@ -101,7 +101,7 @@ module _ (S : Sealing) where
     pub extracts : extracted word_kind S (worked_lock 17) (own_first (with_key 3 4 50)) (own_answer (with_key 3 4 50)) 16 16 8 ≡ Ok Extracted.Key
     pub yields : (key : List ℕ) → length key ≡ 8 → key_after word_kind S (worked_lock 17) (own_first (with_key 3 4 50)) (own_answer (with_key 3 4 50)) 16 16 key ≡ rows (3 ∷ 4 ∷ [])
     -- target 18, first product 334, first output share 339
-    pub forged_1 : verified word_kind S (worked_lock 18) forged_first 1 (forged_answer one) 16 16 ≡ Err (fault_in 1 Reason.WrongProduct 2)
+    pub forged_1 : verified word_kind S (worked_lock 18) forged_first 1 (forged_answer one) 16 16 ≡ Err (fault_in one Reason.WrongProduct 2)
     pub forged_2 : verified word_kind S (worked_lock 18) forged_first 2 (forged_answer two) 16 16 ≡ Ok tt
     pub forged_3 : verified word_kind S (worked_lock 18) forged_first 3 (forged_answer three) 16 16 ≡ Ok tt
 

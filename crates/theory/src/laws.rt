@@ -13,46 +13,34 @@ ghost use Rattle.theory.specs.Figures.{FigureLaw};
 ghost use Rattle.theory.specs.Remembering.{Remembers};
 
 // Groups, messages and the store's places: read as written, written as read, apart.
-pub fn bytes_stand() -> u8
+pub fn bytes_stand()
     ensures groups { (K : Kind) → GroupLaws K }
     ensures messages { (K : Kind) (l : Circuit (List ℕ)) → MessageLaws K l }
     ensures places { (L n : ℕ) → PlaceLaws L n }
     ensures writes { (s : List ℕ) (a : ℕ) (x : List ℕ) → a + length x ≤ length s → PutLaw s a x }
-{
-    0
-}
+{}
 
-// Verify accepts exactly when the messages are well-formed and the checks of Figure 6 hold.
-pub fn verdict_stands() -> u8
+// Verify accepts exactly when the messages are well-formed and the checks of the two opened branches hold.
+pub fn verdict_stands()
     ensures { VerdictLaw }
-{
-    0
-}
+{}
 
 // What a history tells is what stands in the buffers.
-pub fn told_stands() -> u8
+pub fn told_stands()
     ensures { (k : Keeper) → ToldLaw k }
-{
-    0
-}
+{}
 
 // Which condition each fault of each call stands for.
-pub fn rules_stand() -> u8
+pub fn rules_stand()
     ensures { RulesLaw }
-{
-    0
-}
+{}
 
-// Every wire of every branch, and of the plain run, by its gate's equation (Figure 4).
-pub fn figures_stand() -> u8
+// Every wire of every branch, and of the plain run, by its gate's equation.
+pub fn figures_stand()
     ensures { FigureLaw }
-{
-    0
-}
+{}
 
 // After any history the keeper says what its accepted promises' own values give.
-pub fn remembering_stands() -> u8
+pub fn remembering_stands()
     ensures { Remembers }
-{
-    0
-}
+{}

@@ -1,37 +1,36 @@
 // The protocol as definitions (specs/), and what is proved of them (docs/PROOFS.md); here are the types of its outcomes.
 #![tactic(auto)]
 
+pub use faults::Branch;
 use faults::Fault;
 
 pub mod laws;
 pub mod promises;
-
-// One of the three branches that a run is split into.
-#[derive(Clone, Copy, PartialEq, Eq, Debug)]
-pub enum Branch {
-    One,
-    Two,
-    Three,
-}
+mod records;
 
 // What three accepted answers give: a key, or a branch whose two views differ first at an offset.
 #[derive(Clone, Copy, PartialEq, Eq, Debug)]
 pub enum Extracted {
     Key,
-    Collision { branch: u8, offset: usize },
+    Collision { branch: Branch, offset: usize },
 }
 
-// The fault of the verifier, or of the extractor's own tests, beside the pick that it speaks of (0 if none).
+// The fault of the verifier, or of the extractor's own tests, beside the pick that it speaks of, if any.
 #[derive(Clone, Copy, PartialEq, Eq, Debug)]
 pub struct PickFault {
-    pub pick: u8,
+    pub pick: Option<Branch>,
     pub fault: Fault,
 }
 
-// What a keeper remembers of a round.
-#[derive(Clone, Copy, PartialEq, Eq, Debug)]
+// What a keeper remembers of a round, with the number by which it is told outside.
+#[derive(Clone, Copy, PartialEq, Eq, Debug, Default)]
 pub enum RoundState {
-    Promised,
-    Answered,
-    Dropped,
+    #[default]
+    Promised = 0,
+    Answered = 1,
+    Dropped = 2,
 }
+
+// A number that no record has.
+#[derive(Clone, Copy, PartialEq, Eq, Debug)]
+pub struct UnknownRecord;

@@ -4,36 +4,26 @@ ghost use Rattle.theory.specs.Completeness.{Completeness};
 ghost use Rattle.theory.specs.Hiding.{Hiding};
 ghost use Rattle.theory.specs.Worked.{Worked, Witness};
 
-pub fn soundness_stands() -> u8
+pub fn soundness_stands()
     ensures { Soundness }
-{
-    0
-}
+{}
 
-pub fn completeness_stands() -> u8
+pub fn completeness_stands()
     ensures { Completeness }
-{
-    0
-}
+{}
 
-pub fn hiding_stands() -> u8
+pub fn hiding_stands()
     ensures { Hiding }
-{
-    0
-}
+{}
 
-pub fn promises_stand() -> u8
+pub fn promises_stand()
     ensures sound { Soundness }
     ensures complete { Completeness }
     ensures hides { Hiding }
-{
-    0
-}
+{}
 
 // The worked example, and that the promises' premises can be met.
-pub fn worked_stands() -> u8
+pub fn worked_stands()
     ensures example { Worked }
     ensures met { Witness }
-{
-    0
-}
+{}

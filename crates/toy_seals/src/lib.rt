@@ -1,76 +1,58 @@
 // Sealers that forget most of a message, for tests alone: unlike messages share a seal.
 #![tactic(auto)]
 
-ghost use Rattle.std.specs.Prelude.{◌≡◌};
-ghost use Rattle.toy_seals.specs.Toy.{last_of, toy};
-ghost use Rattle.std.proofs.Common.{lit≤};
+ghost use Rattle.std.specs.Prelude.{◌≡◌, refl};
+ghost use Rattle.toy_seals.specs.Toy.{last_of, lawful, toy};
 ghost use Rattle.toy_seals.specs.Sound.{toy_sound};
 
-use faults::Fault;
-use seals::{Sealer, admit};
+use seals::Sealer;
 
 // The last byte's seven low bits; 0 where there is no byte.
 fn last(message: &[u8]) -> u8
     ensures { result ≡ last_of message.now }
 {
-    if message.len() == 0 {
-        return 0;
+    match message {
+        [.., last] => *last % 128,
+        [] => 0,
     }
-    message[message.len() - 1] % 128
 }
 
-// One byte, for messages of at most 48 bytes.
+// Seals of `SIZE` bytes, or of the nearest length that a seal may have, all alike; for messages of at most `MOST` bytes.
 #[derive(Clone, Copy)]
-pub struct Short;
+pub struct Toy<const SIZE: usize, const MOST: usize>;
 
-impl Sealer for Short {
-    const LENGTH: usize = 1;
+impl<const SIZE: usize, const MOST: usize> Sealer for Toy<SIZE, MOST> {
+    const LENGTH: usize = if SIZE < 1 {
+        1
+    } else if SIZE > 64 {
+        64
+    } else {
+        SIZE
+    };
 
-    const LONGEST: usize = 48;
+    const LONGEST: usize = MOST;
 
-    ghost sealing = { toy 1 48 };
+    ghost LENGTH = { lawful SIZE };
 
-    ghost sound = { toy_sound _ _ (lit≤ tt) (lit≤ tt) };
+    ghost LONGEST = { MOST };
 
-    fn seal_length() -> usize {
-        Self::LENGTH
-    }
+    ghost sealing = { toy (lawful SIZE) MOST };
 
-    fn longest_message() -> usize {
-        Self::LONGEST
-    }
+    ghost length_is = { refl };
 
-    fn seal(&self, message: &[u8], out: &mut [u8]) -> Result<(), Fault> {
-        admit(Self::LONGEST, Self::LENGTH, message.len(), out.len())?;
+    ghost longest_is = { refl };
+
+    ghost sound = { toy_sound SIZE MOST };
+
+    fn digest(&self, message: &[u8], out: &mut [u8]) {
         out.fill(last(message));
-        Ok(())
     }
 }
 
-// As many bytes as a seal may have, all alike.
-#[derive(Clone, Copy)]
-pub struct Wide;
+pub type Short = Toy<1, 48>;
 
-impl Sealer for Wide {
-    const LENGTH: usize = 64;
+pub const SHORT: Short = Toy;
 
-    const LONGEST: usize = 65_535;
+pub type Wide = Toy<64, 65_535>;
 
-    ghost sealing = { toy 64 65535 };
-
-    ghost sound = { toy_sound _ _ (lit≤ tt) (lit≤ tt) };
-
-    fn seal_length() -> usize {
-        Self::LENGTH
-    }
-
-    fn longest_message() -> usize {
-        Self::LONGEST
-    }
-
-    fn seal(&self, message: &[u8], out: &mut [u8]) -> Result<(), Fault> {
-        admit(Self::LONGEST, Self::LENGTH, message.len(), out.len())?;
-        out.fill(last(message));
-        Ok(())
-    }
-}
+pub const WIDE: Wide = Toy;

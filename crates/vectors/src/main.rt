@@ -1,18 +1,20 @@
 // Compares published digests, the longest view and the sizes of stores with what the engine gives, and prints each comparison.
 #![tactic(auto)]
 
-mod digests;
 mod hashes;
 mod limits;
 mod stores;
 
+use std::fmt;
+
 // Prints what was compared, and a mismatch as such.
-pub(crate) fn tell(rt: &HostRuntime, what: &str, same: bool) -> anyhow::Result<()> {
-    if same {
-        println!(rt; "{what}: as it should be")?;
-    } else {
-        println!(rt; "{what}: MISMATCH")?;
-    }
+pub(crate) fn tell<D: fmt::Display + Drop>(
+    rt: &HostRuntime,
+    what: D,
+    same: bool,
+) -> anyhow::Result<()> {
+    let verdict = if same { "as it should be" } else { "MISMATCH" };
+    println!(rt; "{what}: {verdict}")?;
     Ok(())
 }
 

@@ -1,4 +1,2 @@
-pub mod PairLemmas
-pub mod ShareLemmas
-pub mod FirstLemmas
-pub mod VerdictLemmas
+pub mod RunLemmas
+pub mod ReadLemmas

@@ -1,3 +1,3 @@
-pub mod Pairs
-pub mod Shares
+pub mod Shown
+pub mod Running
 pub mod Checks

@@ -1,13 +1,11 @@
 // The verifier: a first message and an answer, accepted or refused.
 #![tactic(auto)]
 
+pub mod answer;
 mod figure;
-mod firsts;
-mod formed;
+mod first;
 pub mod messages;
-mod outputs;
 mod rerun;
-mod sealed;
 mod sizes;
 pub mod verify;
-mod views;
+pub mod view;

@@ -1,36 +1,25 @@
 // The sizes of a verifier's buffers.
 ghost use Rattle.std.specs.Prelude.{◌≡◌};
-ghost use Rattle.locks.specs.Locks.{summary_of};
-ghost use Rattle.verifier.specs.Checks.{sizes_by};
+ghost use Rattle.theory.specs.Verdict.{verify_sizes};
 
-use faults::{Fault, Reason};
+use branches::checks::size_right;
+use branches::lock::OpenLock;
+use faults::Fault;
 use kinds::kind::ElementKind;
-use locks::lock::Lock;
 use seals::Sealer;
 
 pub(crate) fn sizes_right<K: ElementKind, S: Sealer>(
-    lock: Lock<'_>,
+    lock: &OpenLock<'_, K>,
     first: usize,
     answer: usize,
     work1: usize,
     work2: usize,
 ) -> Result<(), Fault>
-    ensures { result ≡ sizes_by K.kind S.sealing (summary_of lock.entry) first answer work1 work2 }
+    ensures { result ≡ verify_sizes K.kind S.sealing lock.now first answer work1 work2 }
 {
-    if lock.view_length::<K>() > S::longest_message() {
-        return Err(Fault::at(Reason::WrongSize, 0));
-    }
-    if first != lock.first_length::<K>(S::seal_length() as u8) {
-        return Err(Fault::at(Reason::WrongSize, 1));
-    }
-    if answer != lock.answer_length::<K>() {
-        return Err(Fault::at(Reason::WrongSize, 2));
-    }
-    if work1 < lock.work_length::<K>() {
-        return Err(Fault::at(Reason::WrongSize, 3));
-    }
-    if work2 < lock.work_length::<K>() {
-        return Err(Fault::at(Reason::WrongSize, 4));
-    }
-    Ok(())
+    size_right(lock.view_length() <= S::LONGEST, 0)?;
+    size_right(first == lock.first_length(S::LENGTH as u8), 1)?;
+    size_right(answer == lock.answer_length(), 2)?;
+    size_right(work1 >= lock.work_length(), 3)?;
+    size_right(work2 >= lock.work_length(), 4)
 }

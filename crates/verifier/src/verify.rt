@@ -5,10 +5,9 @@ ghost use Rattle.theory.specs.Verdict.{verified};
 
 use crate::messages::messages_right;
 use crate::sizes::sizes_right;
-use branches::branch::Branch;
 use branches::bytes::clear;
-use branches::walk::open_lock;
-use faults::Fault;
+use branches::lock::OpenLock;
+use faults::{Branch, Fault};
 use kinds::kind::ElementKind;
 use seals::Sealer;
 
@@ -24,10 +23,11 @@ fn verdict<K: ElementKind, S: Sealer>(
 ) -> Result<(), Fault>
     ensures { result ≡ verified K.kind S.sealing lock.now first.now pick answer.now (length work1.old) (length work2.old) }
 {
-    let lock = open_lock::<K>(lock)?;
-    sizes_right::<K, S>(lock, first.len(), answer.len(), work1.len(), work2.len())?;
-    let branch = Branch::picked(pick)?;
-    messages_right::<K, S>(sealer, lock, first, branch, answer, work1, work2)
+    let lock = OpenLock::<K>::read(lock)?;
+    sizes_right::<K, S>(&lock, first.len(), answer.len(), work1.len(), work2.len())?;
+    let branch = Branch::try_from(pick)?;
+    messages_right(sealer, &lock, first, branch, answer, work1, work2)?;
+    Ok(())
 }
 
 // Accepts or refuses a first message and an answer to a pick; both work slices are zero afterwards.

@@ -4,7 +4,7 @@ ghost use Rattle.locks.specs.Lengths.{key_length, view_length, tape_length, firs
 
 use super::Lock;
 use crate::lengths;
-use crate::lengths::{group_length, rows_length};
+use crate::lengths::group_length;
 use kinds::kind::ElementKind;
 
 impl Lock<'_> {
@@ -43,6 +43,6 @@ impl Lock<'_> {
     pub fn work_length<K: ElementKind>(&self) -> usize
         ensures { result ≡ work_length K.kind self.now.inputs self.now.gates }
     {
-        rows_length::<K>(self.inputs as usize + self.gates as usize)
+        group_length::<K>(self.inputs as usize + self.gates as usize)
     }
 }

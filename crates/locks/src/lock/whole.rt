@@ -1,5 +1,5 @@
 // Reading a whole lock.
-ghost use Rattle.std.specs.Prelude.{◌≡◌, ◌≤◌, length};
+ghost use Rattle.std.specs.Prelude.{◌≡◌, ◌≤◌, IfOk};
 ghost use Rattle.faults.specs.Outcomes.{map_ok};
 ghost use Rattle.locks.specs.Circuit.{mus};
 ghost use Rattle.locks.specs.Reading.{records_of, lock_of};
@@ -17,7 +17,8 @@ use kinds::kind::ElementKind;
 // The records behind the header, all tested, and nothing behind them; gives the number of products.
 fn products<K: ElementKind>(counts: Counts, records: &[u8]) -> Result<usize, Fault>
     requires few { (counts.inputs ≤ 1024) × (counts.gates ≤ 200000) }
-    ensures { result ≡ map_ok (λ l. mus l.gates) (records_of K.kind counts 15 records.now) }
+    ensures told { result ≡ map_ok (λ l. mus l.gates) (records_of K.kind counts 15 records.now) }
+    ensures few { IfOk result (λ products. products ≤ counts.gates) }
 {
     let mut reader = Reader::behind_header(records);
     let products = reader.gates::<K>(counts.inputs, counts.gates)?;

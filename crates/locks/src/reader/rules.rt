@@ -41,14 +41,9 @@ fn wire_and_row_right<K: ElementKind>(
     Ok(())
 }
 
-fn two_wires_right<K: ElementKind>(
-    left: usize,
-    right: usize,
-    own: usize,
-    at: usize,
-) -> Result<(), Fault>
+fn two_wires_right(left: usize, right: usize, own: usize, at: usize) -> Result<(), Fault>
     requires { at + 6 < 2 ^ 64 }
-    ensures { result ≡ two_wires_right K.kind at own left right }
+    ensures { result ≡ two_wires_right at own left right }
 {
     wire_right(left, own, at + 2)?;
     wire_right(right, own, at + 6)
@@ -66,7 +61,7 @@ impl GateRecord<'_> {
                 wire_and_row_right::<K>(wire, constant, own, at)
             }
             GateRecord::Add { left, right } | GateRecord::Multiply { left, right } => {
-                two_wires_right::<K>(left, right, own, at)
+                two_wires_right(left, right, own, at)
             }
         }
     }

@@ -1,5 +1,5 @@
 // The reader's steps: over one record, over all of them.
-ghost use Rattle.std.specs.Prelude.{◌≡◌, ℕ, ◌+◌, ◌^◌, ◌<◌, ◌≤◌, List, length};
+ghost use Rattle.std.specs.Prelude.{◌≡◌, ◌+◌, ◌<◌, ◌≤◌, length, IfOk};
 ghost use Rattle.faults.specs.Outcomes.{map_ok};
 ghost use Rattle.locks.specs.Reading.{gate_in, output_in, gate_tested, output_tested, gates_from, outputs_from, ended};
 ghost use Rattle.locks.specs.Model.{gate_of, output_of, standing, start_of, behind_header, behind, past_gate, past_output, reached, tally, all_read};
@@ -54,7 +54,7 @@ impl<'a> Reader<'a> {
         ensures stands { standing self.new ≡ past_output K.kind (map_ok output_of result) (standing self.old) }
     {
         let output = output_in::<K>(self.rest, self.at)?;
-        self.skip(6 + K::row_length());
+        self.skip(6 + K::WIDTH);
         Ok(output)
     }
 
@@ -93,7 +93,8 @@ impl<'a> Reader<'a> {
         count: usize,
     ) -> Result<usize, Fault>
         requires few { (inputs ≤ 1024) × (count ≤ 200000) }
-        ensures { reached result (standing self.new) ≡ map_ok (tally 0) (gates_from K.kind inputs count inputs 0 self.old.at self.old.rest.now) }
+        ensures told { reached result (standing self.new) ≡ map_ok (tally 0) (gates_from K.kind inputs count inputs 0 self.old.at self.old.rest.now) }
+        ensures few { IfOk result (λ products. products ≤ count) }
     {
         let mut products = 0;
         for j in 0..count {
@@ -119,7 +120,7 @@ impl<'a> Reader<'a> {
     ) -> Result<(), Fault>
         ensures { reached result (standing self.new) ≡ map_ok all_read (outputs_from K.kind count wires self.old.at self.old.rest.now) }
     {
-        for _j in 0..count {
+        for _ in 0..count {
             self.next_output::<K>(wires)?;
         }
         Ok(())

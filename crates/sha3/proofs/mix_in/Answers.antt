@@ -1,21 +1,24 @@
-use Rattle.std.proofs.Common.{sym, ◌∙◌, inl, inr, arith}
-use Rattle.std.proofs.lemmas.Bool.{cases_lt}
-use Rattle.std.proofs.lemmas.List.FromFn.{fill_by_all}
-use Rattle.parts.proofs.Filled.{over_more}
+use Rattle.std.proofs.Common.{◌≡◌, get_or, ◌∙◌, arith}
+use lib.Bits.{bit_xor}
+use Rattle.std.proofs.lemmas.List.{get_or-take, get_or-set_other}
+use Rattle.std.proofs.lemmas.List.Edits.{fill_by_more}
 use Rattle.sha3.specs.Sha3.{xored}
 use Rattle.sha3.proofs.Shapes.{added_at}
-use Rattle.sha3.proofs.Sponge.{added_past}
+use Rattle.sha3.proofs.Padding.{mixed}
 use Rattle.sha3.proofs.mix_in.Goals as goal
 
 pub loop-i-preserved : goal.loop-i-preserved
 loop-i-preserved c =
-    let e = c.loop-i.invariant.1 c.loop-i.i (omega arith) in
-    over_more (added_at c.args.a.now c.args.block.now) c.args.a.now c.loop-i.a 25 c.loop-i.i _ (omega arith) c.loop-i.invariant (cc)
+    let a = c.args.a.now in
+    let p = c.args.block.now in
+    let l = c.loop-i in
+    let e = l.invariant.left l.i (omega arith) ∙ get_or-take 17 a l.i 0 (omega arith) in
+    let v : bit_xor (get_or l.lane-items l.i 0) c.read.result ≡ added_at a p l.i = cc in
+    record {
+      done = rw v (fill_by_more (added_at a p) l.lane-items l.i 0 (omega arith) l.invariant.done);
+      left = λ k h. get_or-set_other l.lane-items l.i k _ 0 (omega arith) ∙ l.invariant.left k (omega arith);
+    }
 
 pub returns : goal.returns
 unfolding xored
-returns c =
-    let a = c.args.a.now in
-    let p = c.args.block.now in
-    fill_by_all (added_at a p) c.loop-i.a 25 0 c.loop-i.invariant.0.0
-    (λ k h. elim (cases_lt k c.loop-i.i) [ inl l ↦ c.loop-i.invariant.0.1 k l | inr g ↦ c.loop-i.invariant.1 k g ∙ sym (added_past a p k c.requires (omega arith)) ])
+returns c = mixed c.args.a.now c.args.block.now c.loop-i.lane-items c.told-a c.requires (cc) (λ k h. c.loop-i.invariant.done k (omega arith))

@@ -1,13 +1,11 @@
-use Rattle.std.proofs.Common.{◌≡◌, ℕ, ◌*◌, ap, arith}
+use Rattle.std.proofs.Common.{rules}
 use Rattle.theory.specs.Groups.{element_at}
 use Rattle.branches.proofs.groups.element_at.Goals as goal
 
 pub overflow_mul-result : goal.overflow_mul-result
 unfolding element_at
-overflow_mul-result g c =
-    let e : c.args.i * c.row_length.result ≡ c.args.i * g.K.ElementKind.kind.width = ap (λ (w : ℕ). c.args.i * w) c.row_length.ensures in
-    record { fits = omega (arith, e, c.requires) }
+overflow_mul-result g c = search rules
 
 pub returns : goal.returns
 unfolding element_at
-returns g c = ap (λ (w : ℕ). c.args.i * w) c.row_length.ensures
+returns g c = search rules

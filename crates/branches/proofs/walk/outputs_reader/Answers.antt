@@ -7,4 +7,4 @@ pub returns : goal.returns
 returns g c =
     let xs = c.args.lock.records.now in
     let m = c.args.lock.outputs in
-    c.over.ensures ∙ ap start_of (to_end xs _ ∙ ap (λ (w : ℕ). drop (length xs - m * (6 + w)) xs) c.row_length.ensures)
+    c.over.ensures ∙ ap start_of (to_end xs _ ∙ ap (λ (w : ℕ). drop (length xs - m * (6 + w)) xs) (c.WIDTH.ensures ∙ g.met.K.ElementKind.width_is))

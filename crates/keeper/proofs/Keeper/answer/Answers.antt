@@ -1,39 +1,47 @@
-use Rattle.std.proofs.Common.{◌≡◌, length, take, Ok, sym, refl, ap, ◌∙◌}
+use Rattle.std.proofs.Common.{◌≡◌, length, Ok, sym, refl, ap, ◌∙◌, arith}
+use Rattle.faults.specs.Branches.{next}
+use Rattle.faults.specs.Outcomes.{map_ok}
 use Rattle.theory.specs.declared.RoundState.{RoundState}
-use Rattle.theory.specs.Runs.{next}
 use Rattle.theory.specs.Messages.{answer_bytes}
-use Rattle.theory.specs.Keeper.{answer_branch, answer_result, kept_view, ended}
+use Rattle.theory.specs.Keeper.{answer_branch, kept_view, ended}
 use Rattle.keeper.specs.Model.{values_of}
-use Rattle.keeper.proofs.Tables.{marked}
+use Rattle.keeper.proofs.Tables.{open_range, marked}
 use Rattle.keeper.proofs.Rooms.{placed_here}
 use Rattle.keeper.proofs.Answered.{answering, ended_is, left_as}
 use Rattle.keeper.proofs.Keeper.answer.Goals as goal
 
 pub spend-requires : goal.spend-requires
 spend-requires c =
-    let a = answering (values_of c.args.self.now) c.args.round c.args.pick (length c.args.out.now) (sym c.answerable.ensures ∙ c.in_ok-answerable.was) in
-    record { placed = placed_here c.args.self.now c.args.round a.opened; long = a.sized; pick = (a.low, a.high) }
+    let a = answering (values_of c.args.self.now) c.args.round c.args.pick (length c.args.out.now) c.in_ok-branch.branch (sym c.answerable.ensures ∙ c.in_ok-branch.was) in
+    record { placed = placed_here c.args.self.now c.args.round a.opened; long = a.sized }
 
-pub mark-requires : goal.mark-requires
-mark-requires c =
-    let a = answering (values_of c.args.self.now) c.args.round c.args.pick (length c.args.out.now) (sym c.answerable.ensures ∙ c.in_ok-answerable.was) in
-    let p = placed_here c.args.self.now c.args.round a.opened in
-    (p.low, p.high)
+pub overflow_sub-round : goal.overflow_sub-round
+overflow_sub-round c =
+    let a = answering (values_of c.args.self.now) c.args.round c.args.pick (length c.args.out.now) c.in_ok-branch.branch (sym c.answerable.ensures ∙ c.in_ok-branch.was) in
+    let r = open_range c.args.self.now.records.items c.args.round a.opened in
+    r.0
+
+pub bounds-deref_mut-round : goal.bounds-deref_mut-round
+bounds-deref_mut-round c =
+    let a = answering (values_of c.args.self.now) c.args.round c.args.pick (length c.args.out.now) c.in_ok-branch.branch (sym c.answerable.ensures ∙ c.in_ok-branch.was) in
+    let r = open_range c.args.self.now.records.items c.args.round a.opened in
+    omega (arith, r.0, r.1, ap length c.deref_mut.ensures.value)
 
 pub returns : goal.returns
 returns c =
-    let was : answer_result (values_of c.args.self.now) c.args.round c.args.pick (length c.args.out.now) ≡ Ok tt = sym c.answerable.ensures ∙ c.in_ok-answerable.was in
-    let a = answering (values_of c.args.self.now) c.args.round c.args.pick (length c.args.out.now) was in
+    let k = values_of c.args.self.now in
+    let b = c.in_ok-branch.branch in
+    let was : answer_branch (values_of c.args.self.now) c.args.round c.args.pick (length c.args.out.now) ≡ Ok c.in_ok-branch.branch = sym c.answerable.ensures ∙ c.in_ok-branch.was in
+    let a = answering k c.args.round c.args.pick (length c.args.out.now) b was in
     let p = placed_here c.args.self.now c.args.round a.opened in
     record {
-      outcome = sym was;
+      outcome = ap (map_ok (λ _. tt)) (sym was);
       after =
-          ended_is (values_of c.args.self.now) c.args.round RoundState.Answered c.spend.new.store (take c.args.self.now.promised c.mark.new.self.records) c.spend.ensures.store
-          (ap (take c.args.self.now.promised) c.mark.ensures ∙ marked c.args.self.now.rounds.records c.args.self.now.promised c.args.round RoundState.Answered p.low)
-          ∙ left_as (answer_branch (values_of c.args.self.now) c.args.round c.args.pick (length c.args.out.now)) _ (λ _. ended (values_of c.args.self.now) c.args.round RoundState.Answered) (values_of c.args.self.now) a.branch;
+          ended_is (values_of c.args.self.now) c.args.round RoundState.Answered c.spend.new.store _ c.spend.ensures.store (marked c.args.self.now.records.items c.deref_mut.result.now c.args.round RoundState.Answered p.low c.deref_mut.ensures.value)
+          ∙ left_as (answer_branch (values_of c.args.self.now) c.args.round c.args.pick (length c.args.out.now)) _ (λ _. ended (values_of c.args.self.now) c.args.round RoundState.Answered) (values_of c.args.self.now) was;
       shown =
           c.spend.ensures.out
           ∙ left_as (answer_branch (values_of c.args.self.now) c.args.round c.args.pick (length c.args.out.now)) _
-          (λ b. answer_bytes b (kept_view (values_of c.args.self.now) c.args.round b) (kept_view (values_of c.args.self.now) c.args.round (next b))) c.args.out.now a.branch;
+          (λ b. answer_bytes b (kept_view (values_of c.args.self.now) c.args.round b) (kept_view (values_of c.args.self.now) c.args.round (next b))) c.args.out.now was;
       named = refl;
     }

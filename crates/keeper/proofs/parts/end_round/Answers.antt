@@ -1,7 +1,7 @@
 use Rattle.std.proofs.Common.{◌≡◌, ℕ, ◌+◌, ◌*◌, ◌≤◌, length, replicate, ap, ◌∙◌, arith}
 use lib.ListN.{length-replicate}
 use Rattle.theory.specs.Store.{put}
-use Rattle.promises.proofs.Writes.{put_mid_lem, long}
+use Rattle.keeper.proofs.Rooms.{put_mid_lem, long}
 use Rattle.keeper.proofs.parts.end_round.Goals as goal
 
 pub returns : goal.returns

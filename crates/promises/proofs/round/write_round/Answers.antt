@@ -1,30 +1,22 @@
-use Rattle.std.proofs.Common.{ℕ, ◌+◌, ◌*◌, ◌≤◌, sym, ◌∙◌, subst}
-use Rattle.theory.specs.Algebra.{ops_of}
-use Rattle.theory.specs.Runs.{at_outputs}
-use Rattle.theory.specs.declared.Branch.TheVariants.{One as one, Two as two, Three as three}
-use Rattle.theory.specs.Messages.{first_bytes}
-use Rattle.branches.specs.Walks.{circuit_of}
+use Rattle.std.proofs.Common.{◌++◌, sym, ◌∙◌}
+use Rattle.faults.specs.declared.Branch.TheVariants.{One as one, Two as two, Three as three}
+use Rattle.promises.specs.Drawn.{view_on, outs_on, third_of}
+use Rattle.promises.proofs.Rounds.{third_is, first_written}
 use Rattle.promises.proofs.round.write_round.Goals as goal
 
-pub write_first-requires : goal.write_first-requires
-write_first-requires g c =
+pub returns-clause-first : goal.returns-clause-first
+returns-clause-first g c =
     let K = g.K.ElementKind.kind in
-    record {
-      stands = c.requires.accepted.stands;
-      ready1 = record { within = subst (λ (n : ℕ). (c.args.lock.inputs + c.args.lock.gates) * g.K.ElementKind.kind.width ≤ n) (sym c.write_views.auto.work1) c.requires.within1; lawful = c.write_views.ensures.lawful one };
-      ready2 = record { within = subst (λ (n : ℕ). (c.args.lock.inputs + c.args.lock.gates) * g.K.ElementKind.kind.width ≤ n) (sym c.write_views.auto.work2) c.requires.within2; lawful = c.write_views.ensures.lawful two };
-      ready3 = record { within = subst (λ (n : ℕ). (c.args.lock.inputs + c.args.lock.gates) * g.K.ElementKind.kind.width ≤ n) (sym c.write_views.auto.work3) c.requires.within3; lawful = c.write_views.ensures.lawful three };
-      short = (c.requires.short, c.requires.shaped.short);
-      long = c.write_views.auto.views ∙ c.requires.shaped.long;
-      sized = c.requires.sized;
-    }
-
-pub returns : goal.returns
-returns g c =
-    let K = g.K.ElementKind.kind in
-    let us = (circuit_of K c.args.lock).outputs in
+    let l = c.args.lock.now in
+    let key = c.args.key.now in
+    let t = c.args.tape.now in
     let seal = g.S.Sealer.sealing.seal in
-    record {
-      views = c.write_views.ensures.views;
-      first = c.write_first.ensures ∙ (λ x. first_bytes K (λ i. at_outputs (ops_of K) us (c.write_views.ensures.wires i x)) (λ i. seal (c.write_views.ensures.each i x)));
-    }
+    let each = c.write_views.ensures.each in
+    let w = c.write_views.ensures in
+    let is = third_is c.view_length.result (view_on K l key t one) (view_on K l key t two) (view_on K l key t three) (each one ∙ sym c.view_length.ensures.length) (each two ∙ sym c.view_length.ensures.length) in
+    let L = c.view_length.result in
+    first_written c.copy_from_slice.new.self c.write_views.new.outs c.write_seals.new.seals (outs_on K l key t one) (outs_on K l key t two) (outs_on K l key t three) _
+    c.copy_from_slice.ensures.after w.outs
+    (c.write_seals.ensures
+    ∙ (λ x. seal (third_of L (w.views x) one) ++ (seal (third_of L (w.views x) two) ++ seal (third_of L (w.views x) three)))
+    ∙ (λ x. seal (is.0 x) ++ (seal (is.1 x) ++ seal (is.2 x))))

@@ -1,107 +1,78 @@
-use Rattle.std.proofs.Common.{◌≡◌, ℕ, ◌+◌, ◌-◌, ◌*◌, ◌≤◌, length, sym, ap, ◌∙◌, subst, mul-le-mul_right, arith, length-drop}
-use Rattle.std.specs.List.{between, AllByRecursion}
-use Rattle.kinds.specs.Kind.{Lawful}
-use Rattle.kinds.specs.Groups.{group_length}
-use Rattle.locks.proofs.Steps.{to_end}
+use Rattle.std.proofs.Common.{◌≡◌, ◌++◌, length, sym, ap, ◌∙◌, rules}
+use Rattle.faults.specs.declared.Branch.{Branch}
+use Rattle.faults.specs.declared.Branch.TheVariants.{One as one, Two as two, Three as three}
 use Rattle.theory.specs.Algebra.{ops_of}
-use Rattle.theory.specs.Groups.{group}
-use Rattle.theory.specs.Runs.{honest, rerun}
-use Rattle.theory.specs.declared.Branch.TheVariants.{Three as three}
-use Rattle.branches.specs.Walks.{circuit_of}
-use Rattle.branches.specs.Wires.{wires_in}
-use Rattle.promises.specs.Parts.{three_of}
-use Rattle.promises.specs.Three.{Shaped, Masked, wires_on, masks_on, honest_view}
-use Rattle.promises.specs.Fronts.{third_of, fronts_of}
-use Rattle.promises.specs.Rounds.{shares_on, tape_masks, round_products}
-use Rattle.promises.specs.declared.shape.Masks.{Masks}
-use Rattle.promises.proofs.Segments.{from_parts, each_view}
-use Rattle.promises.proofs.Thirds.{third_there, third_lawful}
+use Rattle.theory.specs.Branches.{shares_of, masks_on as drawn_masks}
+use Rattle.theory.specs.Groups.{group_bytes}
+use Rattle.theory.specs.Messages.{length_of_view}
+use Rattle.promises.specs.Drawn.{Drawn, view_on}
+use Rattle.promises.specs.Running.{Running, Starts, of_branch, wires_on, masks_on}
+use Rattle.theory.proofs.Groups.{counted}
+use Rattle.promises.proofs.Rounds.{each, third_read, third_lawful, starts_of, outs_are, view_written}
 use Rattle.promises.proofs.round.write_views.Goals as goal
 
-inputs_room : (k g w n : ℕ) → (k + g) * w ≤ n → k * w ≤ n
-inputs_room k g w n h = let m : k * w ≤ (k + g) * w = mul-le-mul_right w (omega arith) in omega arith
+pub write_front-requires : goal.write_front-requires
+write_front-requires g c =
+    let a = c.requires.fitting.blinded one in
+    let b = c.requires.fitting.blinded two in
+    let m = c.requires.fitting.taped.masked one in
+    let n = c.requires.fitting.taped.masked two in
+    search rules
 
-pub start_wires-requires : goal.start_wires-requires
-start_wires-requires g c =
-    let K = g.K.ElementKind.kind in
-    let a = c.requires.accepted in
-    let k = c.args.lock.inputs in
-    let L = c.args.shape.view_length in
-    let P = c.write_fronts.new.part in
-    let t = c.args.tape in
-    let gm : group_length g.K.ElementKind.kind c.args.shape.products ≡ group_length g.K.ElementKind.kind c.args.lock.products = ap (group_length g.K.ElementKind.kind) a.counted in
-    let long : length c.write_fronts.new.part ≡ 3 * c.args.shape.view_length = c.write_fronts.auto.part ∙ c.requires.shaped.long in
-    let there = third_there K g.met.K.ElementKind.laws k c.args.key.now t.share1.now t.share2.now a.key_lawful a.share1_lawful a.share2_lawful
-    L c.args.shape.products_at P t.blind3.now t.mask3.now (c.write_fronts.ensures three) a.tape_sized.blind3 (omega (arith, a.front)) in
-    let behind : length (between (2 * c.args.shape.view_length + 32) (length c.write_fronts.new.part) c.write_fronts.new.part) ≡ length c.write_fronts.new.part - (2 * c.args.shape.view_length + 32)
-    = ap length (to_end P (2 * L + 32)) ∙ length-drop (2 * L + 32) P in
-    record {
-      sized = (omega (arith, a.tape_sized.share1), (omega (arith, a.tape_sized.share2), omega (arith, behind, long, a.front, gm, c.requires.shaped.whole)));
-      room = (inputs_room k c.args.lock.gates K.width (length c.args.work1.now) c.requires.within1, (inputs_room k c.args.lock.gates K.width (length c.args.work2.now) c.requires.within2, inputs_room k c.args.lock.gates K.width (length c.args.work3.now) c.requires.within3));
-      lawful1 = a.share1_lawful;
-      lawful2 = a.share2_lawful;
-      lawful3 = subst (AllByRecursion (Lawful K)) (sym there) (third_lawful K g.met.K.ElementKind.laws k c.args.key.now t.share1.now t.share2.now a.key_lawful a.share1_lawful a.share2_lawful);
-    }
+pub write_front-requires-2 : goal.write_front-requires-2
+write_front-requires-2 g c =
+    let a = c.requires.fitting.blinded one in
+    let b = c.requires.fitting.blinded two in
+    let m = c.requires.fitting.taped.masked one in
+    let n = c.requires.fitting.taped.masked two in
+    search rules
 
-pub run_three-requires : goal.run_three-requires
-run_three-requires g c =
-    let K = g.K.ElementKind.kind in
-    let a = c.requires.accepted in
-    let k = c.args.lock.inputs in
-    let t = c.args.tape in
-    let m = c.args.lock.products in
-    let masks : Masks = record { first = t.mask1; second = t.mask2; third = t.mask3 } in
-    let there = third_there K g.met.K.ElementKind.laws k c.args.key.now t.share1.now t.share2.now a.key_lawful a.share1_lawful a.share2_lawful
-    c.args.shape.view_length c.args.shape.products_at c.write_fronts.new.part t.blind3.now t.mask3.now (c.write_fronts.ensures three) a.tape_sized.blind3 (omega (arith, a.front)) in
-    record {
-      stands = a.stands;
-      within1 = subst (λ (n : ℕ). (c.args.lock.inputs + c.args.lock.gates) * g.K.ElementKind.kind.width ≤ n) (sym c.start_wires.auto.work1) c.requires.within1;
-      within2 = subst (λ (n : ℕ). (c.args.lock.inputs + c.args.lock.gates) * g.K.ElementKind.kind.width ≤ n) (sym c.start_wires.auto.work2) c.requires.within2;
-      within3 = subst (λ (n : ℕ). (c.args.lock.inputs + c.args.lock.gates) * g.K.ElementKind.kind.width ≤ n) (sym c.start_wires.auto.work3) c.requires.within3;
-      lawful1 = subst (AllByRecursion (Lawful K)) (sym c.start_wires.ensures.first) a.share1_lawful;
-      lawful2 = subst (AllByRecursion (Lawful K)) (sym c.start_wires.ensures.second) a.share2_lawful;
-      lawful3 = subst (AllByRecursion (Lawful K)) (sym (c.start_wires.ensures.third ∙ there)) (third_lawful K g.met.K.ElementKind.laws k c.args.key.now t.share1.now t.share2.now a.key_lawful a.share1_lawful a.share2_lawful);
-      masked = subst (λ (n : ℕ). Masked K n masks) (sym a.counted) (record {
-        long1 = omega (arith, a.tape_sized.mask1);
-        long2 = omega (arith, a.tape_sized.mask2);
-        long3 = omega (arith, a.tape_sized.mask3);
-        lawful1 = a.mask1_lawful;
-        lawful2 = a.mask2_lawful;
-        lawful3 = a.mask3_lawful;
-      });
-      shaped = subst (Shaped K c.args.shape) (sym c.write_fronts.auto.part) c.requires.shaped;
-      counted = a.counted;
-    }
+pub lawful-third_shares-requires-clause-lawful : goal.lawful-third_shares-requires-clause-lawful
+lawful-third_shares-requires-clause-lawful g c =
+    third_lawful g.K.ElementKind.kind g.met.K.ElementKind.laws c.args.lock.now c.args.key.now c.args.tape.now c.input_count.result c.write_third_front.new.front
+    c.requires.fitting c.input_count.ensures.count c.write_third_front.ensures.front c.write_third_front.ensures.lawful
+
+pub start-trio-requires-clause-shared : goal.start-trio-requires-clause-shared
+start-trio-requires-clause-shared g c =
+    ap length c.lawful-third_shares.ensures ∙ counted g.K.ElementKind.kind c.input_count.result _ ∙ c.input_count.ensures.count
+
+pub run-requires-clause-starts : goal.run-requires-clause-starts
+run-requires-clause-starts g c =
+    let l = c.args.lock.now in
+    let t = c.args.tape.now.parts in
+    let f = c.requires.fitting.taped in
+    let long = ap length c.lawful-third_shares.ensures ∙ counted g.K.ElementKind.kind c.input_count.result _ ∙ c.input_count.ensures.count in
+    each (λ i. Starts l (of_branch c.start-trio.result i))
+    (starts_of l c.start-trio.result.first t.share1 t.mask1 c.start-trio.ensures.first f.size1 (f.masked one))
+    (starts_of l c.start-trio.result.second t.share2 t.mask2 c.start-trio.ensures.second f.size2 (f.masked two))
+    (starts_of l c.start-trio.result.third c.lawful-third_shares.result t.mask3 c.start-trio.ensures.third long (f.masked three))
 
 pub returns : goal.returns
 returns g c =
     let K = g.K.ElementKind.kind in
-    let a = c.requires.accepted in
-    let k = c.args.lock.inputs in
-    let t = c.args.tape in
-    let L = c.args.shape.view_length in
-    let at = c.args.shape.products_at in
-    let M = c.args.shape.products in
+    let l = c.args.lock.now in
     let key = c.args.key.now in
-    let lock = c.args.lock in
-    let gs = (circuit_of K c.args.lock).gates in
-    let there = third_there K g.met.K.ElementKind.laws k key t.share1.now t.share2.now a.key_lawful a.share1_lawful a.share2_lawful
-    L at c.write_fronts.new.part t.blind3.now t.mask3.now (c.write_fronts.ensures three) a.tape_sized.blind3 (omega (arith, a.front)) in
-    let e1 = c.start_wires.ensures.first in
-    let e2 = c.start_wires.ensures.second in
-    let e3 : wires_in K k c.start_wires.new.work3 ≡ third_of K k key t = c.start_wires.ensures.third ∙ there in
-    let W : wires_on K k c.start_wires.new.work1 c.start_wires.new.work2 c.start_wires.new.work3 ≡ shares_on K lock key t = λ x. three_of (e1 x) (e2 x) (e3 x) in
-    let masks : Masks = record { first = t.mask1; second = t.mask2; third = t.mask3 } in
-    let R : masks_on K M masks ≡ tape_masks K lock key t = λ x. three_of (group K (a.counted x) t.mask1.now) (group K (a.counted x) t.mask2.now) (group K (a.counted x) t.mask3.now) in
+    let t = c.args.tape.now in
+    let s = c.start-trio.result in
+    let there = third_read g.K.ElementKind.kind g.met.K.ElementKind.laws c.args.lock.now c.args.key.now c.args.tape.now c.input_count.result c.write_third_front.new.front
+    c.requires.fitting c.input_count.ensures.count c.write_third_front.ensures.front c.write_third_front.ensures.lawful in
+    let W : (i : Branch) → wires_on c.start-trio.result i ≡ shares_of (ops_of g.K.ElementKind.kind) c.args.key.now c.args.tape.now.parts i =
+    each (λ i. wires_on c.start-trio.result i ≡ shares_of (ops_of g.K.ElementKind.kind) c.args.key.now c.args.tape.now.parts i)
+    (ap (λ (r : Running). r.wires) c.start-trio.ensures.first) (ap (λ (r : Running). r.wires) c.start-trio.ensures.second) (ap (λ (r : Running). r.wires) c.start-trio.ensures.third ∙ c.lawful-third_shares.ensures ∙ there) in
+    let R : (i : Branch) → masks_on c.start-trio.result i ≡ drawn_masks c.args.tape.now.parts i =
+    each (λ i. masks_on c.start-trio.result i ≡ drawn_masks c.args.tape.now.parts i)
+    (ap (λ (r : Running). r.masks) c.start-trio.ensures.first) (ap (λ (r : Running). r.masks) c.start-trio.ensures.second) (ap (λ (r : Running). r.masks) c.start-trio.ensures.third) in
+    let f1 = c.write_front.ensures ∙ (λ x. c.tape.inside.blind1.now ++ (c.bytes.ensures.bytes x ++ c.bytes-2.ensures.bytes x)) ∙ ap (λ (d : Drawn). d.blind1 ++ (group_bytes K d.parts.share1 ++ group_bytes K d.parts.mask1)) c.tape.view_is in
+    let f2 = c.write_front-2.ensures ∙ (λ x. c.tape.inside.blind2.now ++ (c.bytes-3.ensures.bytes x ++ c.bytes-4.ensures.bytes x)) ∙ ap (λ (d : Drawn). d.blind2 ++ (group_bytes K d.parts.share2 ++ group_bytes K d.parts.mask2)) c.tape.view_is in
+    let v1 = view_written K l key t s W R one c.write_front.new.front c.run.new.products1 f1 c.run.ensures.products1 in
+    let v2 = view_written K l key t s W R two c.write_front-2.new.front c.run.new.products2 f2 c.run.ensures.products2 in
+    let v3 = view_written K l key t s W R three c.write_third_front.new.front c.run.new.products3 c.write_third_front.ensures.front c.run.ensures.products3 in
+    let o = λ (i : Branch). outs_are K l key t s W R i (wires_on c.run.new.self i) (c.run.ensures.wires i) in
+    let n1 : length (c.write_front.new.front ++ c.run.new.products1) ≡ length_of_view g.K.ElementKind.kind c.args.lock.now = search rules in
+    let n2 : length (c.write_front-2.new.front ++ c.run.new.products2) ≡ length_of_view g.K.ElementKind.kind c.args.lock.now = search rules in
+    let n3 : length (c.write_third_front.new.front ++ c.run.new.products3) ≡ length_of_view g.K.ElementKind.kind c.args.lock.now = search rules in
     record {
-      views = from_parts K L at M c.run_three.new.part c.requires.shaped.whole (c.run_three.auto.part ∙ c.write_fronts.auto.part ∙ c.requires.shaped.long)
-          (fronts_of K k key t) (round_products K lock key t)
-          (λ i. c.run_three.ensures.kept i ∙ c.write_fronts.ensures i)
-          (λ i. c.run_three.ensures.filled i ∙ (λ x. honest (ops_of K) gs (W x) (R x) i));
-      each = each_view K L at M c.run_three.new.part c.requires.shaped.whole (c.run_three.auto.part ∙ c.write_fronts.auto.part ∙ c.requires.shaped.long)
-          (fronts_of K k key t) (round_products K lock key t)
-          (λ i. c.run_three.ensures.kept i ∙ c.write_fronts.ensures i)
-          (λ i. c.run_three.ensures.filled i ∙ (λ x. honest (ops_of K) gs (W x) (R x) i));
-      wires = λ i. c.run_three.ensures.wires i ∙ (λ x. rerun (ops_of K) i gs (honest_view K gs (W x) (R x) i));
-      lawful = c.run_three.ensures.lawful;
+      views = λ x. v1 x ++ (v2 x ++ v3 x);
+      each = each (λ i. length (view_on K l key t i) ≡ length_of_view K l) (sym (ap length v1) ∙ n1) (sym (ap length v2) ∙ n2) (sym (ap length v3) ∙ n3);
+      outs = c.write_outputs.ensures ∙ (λ x. o one x ++ (o two x ++ o three x));
     }

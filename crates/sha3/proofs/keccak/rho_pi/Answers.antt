@@ -1,12 +1,12 @@
-use Rattle.std.proofs.Common.{arith}
-use Rattle.parts.proofs.Filled.{fill_more, fill_all}
+use Rattle.std.proofs.Common.{rules, lit<}
+use Rattle.parts.proofs.Made.{made_all, serves_below}
 use Rattle.sha3.specs.Keccak.{ρ, π}
-use Rattle.sha3.proofs.Shapes.{turned_at}
+use Rattle.sha3.proofs.Shapes.{source_below, turned_at}
 use Rattle.sha3.proofs.keccak.rho_pi.Goals as goal
 
-pub loop-i-preserved : goal.loop-i-preserved
-loop-i-preserved c = fill_more (turned_at c.args.a.now) c.loop-i.b 25 c.loop-i.i _ c.loop-i-test.true c.loop-i.invariant (cc)
+pub from_fn-requires : goal.from_fn-requires
+from_fn-requires c = (lit< tt, serves_below 25 _ (λ k q p r. search rules) (λ k h. let b = source_below k h in search rules))
 
 pub returns : goal.returns
 unfolding ρ π
-returns c = fill_all (turned_at c.args.a.now) c.loop-i.b 25 c.loop-i.i (omega arith) c.loop-i.invariant
+returns c = made_all _ (turned_at c.args.a.now) _ c.from_fn.result 25 (λ k r q h e. search rules) c.from_fn.ensures.items

@@ -6,4 +6,4 @@ pub returns-then-promised-rounds_in : goal.returns-then-promised-rounds_in
 returns-then-promised-rounds_in c = none_held c.args.self.now c.args.bytes c.rounds_in.result c.rounds_in.ensures.value c.if-promised-rounds_in.true
 
 pub returns : goal.returns
-returns c = c.read_table.ensures ∙ held c.args.self.now c.args.bytes c.rounds_in.result c.rounds_in.ensures.value c.if-promised-rounds_in.false
+returns c = c.read_records.ensures ∙ held c.args.self.now c.args.bytes c.rounds_in.result c.rounds_in.ensures.value c.if-promised-rounds_in.false

@@ -1,4 +1,4 @@
-use Rattle.std.proofs.Common.{◌≡◌, ℕ, ◌≤◌, List, length, Ok, Err, Result, sym, ap, ◌∙◌, arith}
+use Rattle.std.proofs.Common.{◌≡◌, ℕ, List, length, Ok, Err, Result, sym, ap, ◌∙◌}
 use Rattle.std.proofs.lemmas.Result.{err_from_is_err_and}
 use Rattle.faults.specs.declared.Fault.{Fault}
 use Rattle.faults.specs.Outcomes.{map_ok}
@@ -11,7 +11,6 @@ use Rattle.locks.specs.Reading.{header_of, records_of, lock_of}
 use Rattle.locks.specs.Locks.{summary, summary_of, record_bytes, Walkable}
 use Rattle.locks.proofs.Encodings.{reads}
 use Rattle.locks.proofs.Steps.{to_end}
-use Rattle.locks.proofs.Spelled.{header_stands}
 use Rattle.locks.proofs.Summed.{in_bytes, walk_refused, header_refused, walk_accepted, records_refused, Accepted, accepted}
 use Rattle.locks.proofs.lock.whole.read_lock.Goals as goal
 
@@ -40,7 +39,7 @@ returns-in_err-products g c =
     let p = err_from_is_err_and c.from_residual-in_err-products.result c.from_residual-in_err-products.ensures.1 in
     let f = c.in_err-products.field-0.0 in
     let d = records_refused k bs n f (sym c.header.ensures ∙ c.in_ok-counts.was)
-    (ap (λ (xs : List ℕ). map_ok (λ (l : Circuit (List ℕ)). mus l.gates) (records_of k n 15 xs)) (sym (to_end bs 15)) ∙ sym c.products.ensures ∙ c.in_err-products.was) in
+    (ap (λ (xs : List ℕ). map_ok (λ (l : Circuit (List ℕ)). mus l.gates) (records_of k n 15 xs)) (sym (to_end bs 15)) ∙ sym c.products.ensures.told ∙ c.in_err-products.was) in
     let s = refused k bs c.from_residual-in_err-products.result f (p.1 ∙ ap Err p.2) d in
     record { outcome = s.outcome; exact = reads k g.met.K.ElementKind.laws bs (in_bytes bs c.type_inv.bytes); walk = s.walk }
 
@@ -50,22 +49,12 @@ all_read : (K : Kind) (bs : List ℕ) (n : Counts) (q : ℕ) (h : Result Counts 
 all_read K bs n q h r he hn re rq =
     accepted K bs n q (sym he ∙ hn) (ap (λ (xs : List ℕ). map_ok (λ (l : Circuit (List ℕ)). mus l.gates) (records_of K n 15 xs)) (sym (to_end bs 15)) ∙ sym re ∙ rq)
 
-pub overflow_cast-result-4 : goal.overflow_cast-result-4
-overflow_cast-result-4 g c =
-    let k = g.K.ElementKind.kind in
-    let bs = c.args.bytes.now in
-    let n = c.in_ok-counts.counts in
-    let a = all_read k bs n c.in_ok-products.products c.header.result c.products.result c.header.ensures c.in_ok-counts.was c.products.ensures c.in_ok-products.was in
-    let few : c.in_ok-counts.counts.gates ≤ 200000 = (header_stands k bs n (sym c.header.ensures ∙ c.in_ok-counts.was)).few_gates in
-    let fewer : c.in_ok-products.products ≤ c.in_ok-counts.counts.gates = a.few in
-    record { fits = omega (arith, few, fewer) }
-
 pub returns : goal.returns
 returns g c =
     let k = g.K.ElementKind.kind in
     let bs = c.args.bytes.now in
     let n = c.in_ok-counts.counts in
-    let a = all_read k bs n c.in_ok-products.products c.header.result c.products.result c.header.ensures c.in_ok-counts.was c.products.ensures c.in_ok-products.was in
+    let a = all_read k bs n c.in_ok-products.products c.header.result c.products.result c.header.ensures c.in_ok-counts.was c.products.ensures.told c.in_ok-products.was in
     record {
       outcome = ap Ok a.sums ∙ sym (ap (map_ok summary) a.read);
       exact = reads k g.met.K.ElementKind.laws bs (in_bytes bs c.type_inv.bytes);

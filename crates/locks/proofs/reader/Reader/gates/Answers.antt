@@ -6,8 +6,8 @@ use Rattle.locks.specs.Model.{standing, reached}
 use Rattle.locks.proofs.Loops.{gates_next, gates_refused, gates_end}
 use Rattle.locks.proofs.reader.Reader.gates.Goals as goal
 
-pub returns-in_err-products : goal.returns-in_err-products
-returns-in_err-products g c =
+pub returns-in_err-products-clause-told : goal.returns-in_err-products-clause-told
+returns-in_err-products-clause-told g c =
     let p = err_from_is_err_and c.from_residual.result c.from_residual.ensures.1 in
     let s = standing c.loop-j.self in
     let e : gate_tested g.K.ElementKind.kind c.args.inputs (c.args.inputs + c.loop-j.j) c.loop-j.products c.loop-j.self.at c.loop-j.self.rest.now ≡ Err c.in_err-products.field-0.0 =
@@ -23,7 +23,7 @@ loop-j-preserved g c =
     (sym c.next_gate.ensures.outcome ∙ c.in_ok-products.was) c.next_gate.ensures.stands in
     (n.0 ∙ c.loop-j.invariant.0, omega (arith, n.1, c.loop-j.invariant.1))
 
-pub returns : goal.returns
-returns g c =
+pub returns-clause-told : goal.returns-clause-told
+returns-clause-told g c =
     gates_end g.K.ElementKind.kind c.args.inputs c.args.count c.loop-j.j (c.args.inputs + c.loop-j.j) c.loop-j.products (standing c.loop-j.self) (omega arith)
     ∙ c.loop-j.invariant.0

@@ -1,0 +1,6 @@
+use Rattle.std.proofs.Common.{length, ap, arith}
+use Rattle.theory.proofs.Groups.{counted}
+use Rattle.branches.proofs.group.Group.element.Goals as goal
+
+pub element-requires-clause-below : goal.element-requires-clause-below
+element-requires-clause-below g c = omega (arith, c.requires, counted g.K.ElementKind.kind c.self.inside.count c.self.inside.bytes.now, ap length c.self.view_is)
