@@ -1,5 +1,5 @@
 // Arithmetic modulo a number of at most 32 bits, on rows of four bytes.
-ghost use Rattle.std.specs.Prelude.{◌≡◌, ℕ, ◌+◌, ◌%◌, ◌<◌, ◌≤◌, refl};
+ghost use Rattle.std.specs.Prelude.{◌≡◌, ℕ, ◌+◌, ◌%◌, ◌<◌, ◌≤◌, refl, ⊤};
 ghost use Rattle.kinds.specs.Numbers.{four_bytes};
 ghost use Rattle.kinds.specs.Three.{modular};
 ghost use Rattle.kinds.specs.ModularLaws.{modular_laws, lawful_four};
@@ -33,6 +33,10 @@ pub struct Modular<M: Modulus> {
 }
 
 impl<M: Modulus> Clone for Modular<M> {
+    ghost is_clone = { λ x y. y ≡ x };
+
+    ghost is_infallible = { λ _. ⊤ };
+
     fn clone(&self) -> Result<Self, AllocError> {
         Ok(*self)
     }
