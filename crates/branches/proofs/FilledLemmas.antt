@@ -1,52 +1,44 @@
 -- Rows that grow in bytes.
-use Rattle.std.proofs.Common.{◌≡◌, ℕ, zero, suc, ◌+◌, ◌*◌, ◌<◌, ◌≤◌, List, [], ◌∷◌, ◌++◌, length, take, drop, set, sym, refl, ap, ◌∙◌, subst, add-one, mul-le-mul_right, arith, length-append, length-drop}
+use Rattle.std.proofs.Common.{◌≡◌, ℕ, zero, suc, ◌+◌, ◌*◌, ◌<◌, ◌≤◌, List, [], ◌∷◌, ◌++◌, length, take, drop, sym, refl, ap, ◌∙◌, subst, add-one, mul-le-mul_right, arith, length-append, length-drop}
 use Rattle.std.specs.List.{AllByRecursion}
 use Rattle.kinds.specs.Kind.{Kind, Laws, Lawful}
 use Rattle.kinds.specs.Groups.{group_length}
 use Rattle.theory.specs.Groups.{group, group_bytes}
-use Rattle.theory.proofs.Groups.{counted, read_written}
+use Rattle.theory.proofs.Groups.{read_written}
+use Rattle.branches.specs.Wires.{wires_in}
 use Rattle.branches.specs.Filled.{Fills}
 use Rattle.branches.proofs.RowLemmas.{all_snoc}
 
-set_last : {A : Type 0} (xs : List A) (y z : A) → set (xs ++ (y ∷ [])) (length xs) z ≡ xs ++ (z ∷ [])
-set_last [] y z = refl
-set_last (x ∷ xs) y z = ap (λ l. x ∷ l) (set_last xs y z)
-
 module _ (K : Kind) where
-  -- one row more
-  group_last : (n : ℕ) (bs : List ℕ) → (y : List ℕ) × (group K (suc n) bs ≡ group K n bs ++ (y ∷ []))
-  unfolding group
-  group_last zero bs = (_, refl)
-  group_last (suc n) bs = let more = group_last n (drop K.width bs) in (more.0, ap (λ (l : List (List ℕ)). take K.width bs ∷ l) more.1)
-
   -- row n is written behind the first n
-  module _ (n m : ℕ) (bs bs' row : List ℕ) (e : m ≡ n + 1) (put : group K m bs' ≡ set (group K m bs) n row) where
-    pub grown : group K m bs' ≡ group K n bs ++ (row ∷ [])
-    grown =
-        let one = group_last n bs in
-        put
-        ∙ ap (λ (k : ℕ). set (group K k bs) n row) (e ∙ add-one n)
-        ∙ ap (λ (l : List (List ℕ)). set l n row) one.1
-        ∙ ap (λ (k : ℕ). set (group K n bs ++ (one.0 ∷ [])) k row) (sym (counted K n bs))
-        ∙ set_last (group K n bs) one.0 row
+  module _ (n m : ℕ) (bs bs' row : List ℕ) (e : m ≡ n + 1) (added : wires_in K (suc n) bs' ≡ wires_in K n bs ++ (row ∷ [])) where
+    pub grown : wires_in K m bs' ≡ wires_in K n bs ++ (row ∷ [])
+    grown = ap (λ (k : ℕ). wires_in K k bs') (e ∙ add-one n) ∙ added
 
     pub fills_more : (most : ℕ) → n < most → Fills K n most bs → length bs' ≡ length bs → Lawful K row → Fills K m most bs'
     fills_more most below f same l = record {
       few = omega (arith, e, below);
       room = omega (arith, f.room, same);
-      lawful = subst (AllByRecursion (Lawful K)) (sym grown) (all_snoc (Lawful K) (group K n bs) row f.lawful l);
+      lawful = subst (AllByRecursion (Lawful K)) (sym grown) (all_snoc (Lawful K) (wires_in K n bs) row f.lawful l);
     }
 
   -- there is room for one more
-  pub room_for : (n m most : ℕ) (bs : List ℕ) → m ≡ n + 1 → n < most → Fills K n most bs → group_length K m ≤ length bs
-  room_for n m most bs e below f = let h : m * K.width ≤ most * K.width = mul-le-mul_right K.width (omega arith) in omega (arith, h, f.room)
+  pub room_for : (n most : ℕ) (bs : List ℕ) → n < most → Fills K n most bs → suc n * K.width ≤ length bs
+  room_for n most bs below f = let h : suc n * K.width ≤ most * K.width = mul-le-mul_right K.width below in omega (arith, h, f.room)
+
+  -- today a group's elements lie as wires do
+  wires_of_group : (n : ℕ) (bs : List ℕ) → wires_in K n bs ≡ group K n bs
+  unfolding wires_in group
+  wires_of_group zero bs = refl
+  wires_of_group (suc n) bs = ap (λ (l : List (List ℕ)). take K.width bs ∷ l) (wires_of_group n (drop K.width bs))
 
   -- the bytes of a group are copied to the front
   module _ (laws : Laws K) (es : List (List ℕ)) (n most : ℕ) (work bytes written : List ℕ) (all : AllByRecursion (Lawful K) es)
       (count : n ≡ length es) (is : bytes ≡ group_bytes K es) (copied : written ≡ bytes) where
-    pub copied_rows : group K n (written ++ drop (length bytes) work) ≡ es
+    pub copied_rows : wires_in K n (written ++ drop (length bytes) work) ≡ es
     copied_rows =
-        ap (λ (k : ℕ). group K k (written ++ drop (length bytes) work)) count
+        wires_of_group n (written ++ drop (length bytes) work)
+        ∙ ap (λ (k : ℕ). group K k (written ++ drop (length bytes) work)) count
         ∙ ap (λ (bs : List ℕ). group K (length es) (bs ++ drop (length bytes) work)) (copied ∙ is)
         ∙ read_written K laws es (drop (length bytes) work) all
 

@@ -2,7 +2,7 @@
 use Rattle.std.specs.Prelude.{ℕ, ◌*◌, ◌≤◌, List, length}
 use Rattle.std.specs.List.{AllByRecursion}
 use Rattle.kinds.specs.Kind.{Kind, Lawful}
-use Rattle.theory.specs.Groups.{group}
+use Rattle.branches.specs.Wires.{wires_in}
 
 pub record Filled : Type 0 where
   pub rows : List (List ℕ)
@@ -12,4 +12,4 @@ pub record Filled : Type 0 where
 pub record Fills (K : Kind) (n most : ℕ) (bytes : List ℕ) : Type 0 where
   pub few : n ≤ most
   pub room : most * K.width ≤ length bytes
-  pub lawful : AllByRecursion (Lawful K) (group K n bytes)
+  pub lawful : AllByRecursion (Lawful K) (wires_in K n bytes)

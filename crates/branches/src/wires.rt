@@ -7,7 +7,6 @@ ghost use Rattle.theory.specs.Runs.{read};
 ghost use Rattle.branches.specs.Wires.{wires_in};
 
 use crate::group::Group;
-use crate::groups::{element, put_element};
 use crate::rows::{row_of, write_row};
 use kinds::kind::ElementKind;
 use std::marker::{Model, PhantomData};
@@ -22,12 +21,12 @@ pub struct Wires<'a, K: ElementKind> {
 }
 
 impl<'a, K: ElementKind> Model for Wires<'a, K> {
-    ghost use Rattle.theory.specs.Groups.{group};
+    ghost use Rattle.branches.specs.Wires.{wires_in};
     ghost use Rattle.branches.specs.Filled.{Filled, Fills};
 
     ghost Value = { Filled };
 
-    ghost view = { λ w. record { rows = group K.kind w.count w.work.now; most = w.most } };
+    ghost view = { λ w. record { rows = wires_in K.kind w.count w.work.now; most = w.most } };
 
     ghost invariant = { λ w. Fills K.kind w.count w.most w.work.now };
 }
@@ -62,7 +61,7 @@ impl<'a, K: ElementKind> Wires<'a, K> {
         requires { a < length self.now.rows }
         ensures { K.ElementKind.row result ≡ read (ops_of K.kind) self.now.rows a }
     {
-        element(&*self.work, self.count, a)
+        wire(&*self.work, self.count, a)
     }
 
     pub fn push(&mut self, x: K)
@@ -73,7 +72,7 @@ impl<'a, K: ElementKind> Wires<'a, K> {
         let work = &mut *self.work;
         let own = self.count;
         self.count += 1;
-        put_element(work, self.count, own, x);
+        add_wire(work, own, x);
     }
 }
 
