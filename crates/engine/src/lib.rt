@@ -11,6 +11,7 @@ pub use faults::{Branch, Fault, Reason};
 pub use keeper::Keeper;
 pub use kinds::bit::Bit;
 pub use kinds::kind::ElementKind;
+pub use kinds::name::KindName;
 pub use kinds::residue::Residue;
 pub use kinds::word::Word;
 pub use locks::lock::Lock;

@@ -8,6 +8,11 @@ pub type Residue = Modular<Mersenne31>;
 
 pub struct Mersenne31;
 
+// A number of its own, since a pattern takes no constant of a generic type.
+impl Residue {
+    pub const NUMBER: u8 = Mersenne31::NUMBER;
+}
+
 impl Modulus for Mersenne31 {
     const NUMBER: u8 = KindName::Residue as u8;
 

@@ -8,6 +8,11 @@ pub type Word = Modular<TwoTo32>;
 
 pub struct TwoTo32;
 
+// A number of its own, since a pattern takes no constant of a generic type.
+impl Word {
+    pub const NUMBER: u8 = TwoTo32::NUMBER;
+}
+
 impl Modulus for TwoTo32 {
     const NUMBER: u8 = KindName::Word as u8;
 

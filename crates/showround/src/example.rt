@@ -1,6 +1,6 @@
 // What the program plays with, from files.
 use crate::stop::Stop;
-use kinds::name::KindName;
+use engine::KindName;
 use plays::Opening;
 use std::fs;
 

@@ -1,9 +1,8 @@
 // Plays a round from lock to extracted key and prints each step: with each sealer, at every pick, and once with a forged product.
 #![tactic(auto)]
 
-use engine::{Bit, ElementKind, Residue, Sha3_256, Sha256, Word, promises_stand};
+use engine::{Bit, ElementKind, KindName, Residue, Sha3_256, Sha256, Word, promises_stand};
 use example::Example;
-use kinds::name::KindName;
 use report::report;
 use shown::show;
 use std::env;

@@ -1,8 +1,7 @@
 // The messages of rounds with one tape.
 use crate::player::Player;
 use crate::stop::Stop;
-use engine::{ElementKind, Sealer};
-use faults::Branch;
+use engine::{Branch, ElementKind, Sealer};
 
 pub const PICKS: [Branch; 3] = [Branch::One, Branch::Two, Branch::Three];
 

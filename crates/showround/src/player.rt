@@ -1,7 +1,8 @@
 // The engine's calls with buffers of their sizes.
 use crate::stop::Stop;
-use engine::{ElementKind, Extracted, Fault, Keeper, Lock, PickFault, Sealer, play_round};
-use faults::Branch;
+use engine::{
+    Branch, ElementKind, Extracted, Fault, Keeper, Lock, PickFault, Sealer, play_round,
+};
 use plays::{Opening, Works};
 use std::alloc::{AllocError, Global};
 

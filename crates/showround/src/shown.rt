@@ -4,8 +4,7 @@ use crate::forgery::{claimed, forge};
 use crate::messages::{Messages, PICKS};
 use crate::player::{Player, Sizes};
 use crate::stop::Stop;
-use engine::{ElementKind, Extracted, Fault, Keeper, Sealer, read_lock};
-use faults::Branch;
+use engine::{Branch, ElementKind, Extracted, Fault, Keeper, Sealer, read_lock};
 use plays::Opening;
 use std::fmt;
 

@@ -51,7 +51,7 @@ module _ {E : Type 0} (O : Ops E) where
   abbrev pub out_shares : Circuit E → List E → Tape E → Branch → List E
   out_shares l key t i = at_outputs O l.outputs (rerun O i l.gates (view l key t i))
 
-  -- the verifier's checks, the seals aside, of output shares y, pick e, view A of branch e and view B of the branch after it:
+  -- Figure 6, the verifier's checks, the seals aside, of output shares y, pick e, view A of branch e and view B of the branch after it:
   -- the shares of each output sum to its target, both branches give their output shares, and each product in A is right
   pub record Accepts (l : Circuit E) (y : Branch → List E) (e : Branch) (A B : View E) : Type 0 where
     pub size_a : ViewFor l A

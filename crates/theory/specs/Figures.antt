@@ -1,4 +1,4 @@
--- Every wire of every branch by its gate's equation; and the plain run likewise.
+-- The linear decomposition, Figure 4 of the ZKBoo paper: every wire of every branch by its gate's equation; and the plain run likewise.
 use Rattle.std.specs.Prelude.{◌≡◌, ℕ, suc, ◌<◌, ◌≤◌, List, [], ◌∷◌, map, Ok}
 use Rattle.locks.specs.Circuit.{Gate, ac, mc, ad, mu, Circuit}
 use Rattle.locks.specs.Reading.{lock_of}

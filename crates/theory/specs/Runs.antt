@@ -1,4 +1,4 @@
--- The gates of a circuit, run plainly and by three branches.
+-- The gates of a circuit, run plainly and by three branches (the linear decomposition of the ZKBoo paper's Figure 4).
 use Rattle.std.specs.Prelude.{◌≡◌, ℕ, List, [], ◌∷◌, ◌++◌, map, length, slice_index_or}
 use Rattle.locks.specs.Circuit.{Gate, ac, mc, ad, mu, Output, Circuit}
 use Rattle.theory.specs.Algebra.{Ops}

@@ -1,4 +1,4 @@
--- What verify answers, with all its faults in their order; and the same as a relation.
+-- What verify answers, with all its faults in their order; and the same as a relation, Figure 6 of the ZKBoo paper.
 use Rattle.std.specs.Prelude.{◌≡◌, ℕ, suc, ◌+◌, ◌≤◌, Bool, true, cond, List, [], ◌∷◌, length, Some, None, Ok, Option, ◌==◌, nat_le, slice_index, slice_index_or}
 use Rattle.std.specs.List.{AllByRecursion}
 use Rattle.faults.specs.declared.Reason.{Reason}
@@ -86,7 +86,7 @@ verified K S lock fm pick an work1 work2 =
     both (verify_sizes K S l (length fm) (length an) work1 work2)
     (and_then (picked pick) (λ e. messages_right K S l fm e an)))
 
--- the checks with the seals: of output shares y and seals z, the views a and b of branch e and of the one after it
+-- Figure 6, the checks with the seals: of output shares y and seals z, the views a and b of branch e and of the one after it
 pub record Passes (K : Kind) (S : Sealing) (l : Circuit (List ℕ)) (y : Branch → List (List ℕ)) (z : Branch → List ℕ) (e : Branch) (a b : Blinded) : Type 0 where
   pub blind_a : length a.0 ≡ 32
   pub blind_b : length b.0 ≡ 32
@@ -96,7 +96,7 @@ pub record Passes (K : Kind) (S : Sealing) (l : Circuit (List ℕ)) (y : Branch 
   pub seal_a : S.seal (view_bytes K a) ≡ z e
   pub seal_b : S.seal (view_bytes K b) ≡ z (next e)
 
--- the messages are well-formed and the checks hold of what they say
+-- the messages are well-formed and the checks of Figure 6 hold of what they say
 pub record Accepted (K : Kind) (S : Sealing) (lock fm : List ℕ) (e : Branch) (an : List ℕ) (work1 work2 : ℕ) (l : Circuit (List ℕ)) : Type 0 where
   pub reads : lock_of K lock ≡ Ok l
   pub sealable : length_of_view K l ≤ S.longest

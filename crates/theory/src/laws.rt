@@ -20,7 +20,7 @@ pub fn bytes_stand()
     ensures writes { (s : List ℕ) (a : ℕ) (x : List ℕ) → a + length x ≤ length s → PutLaw s a x }
 {}
 
-// Verify accepts exactly when the messages are well-formed and the checks of the two opened branches hold.
+// Verify accepts exactly when the messages are well-formed and the checks of the two opened branches (Figure 6) hold.
 pub fn verdict_stands()
     ensures { VerdictLaw }
 {}
@@ -35,7 +35,7 @@ pub fn rules_stand()
     ensures { RulesLaw }
 {}
 
-// Every wire of every branch, and of the plain run, by its gate's equation.
+// Every wire of every branch, and of the plain run, by its gate's equation (Figure 4).
 pub fn figures_stand()
     ensures { FigureLaw }
 {}

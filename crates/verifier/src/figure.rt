@@ -1,4 +1,4 @@
-// The checks of the two opened branches, on messages whose elements are lawful.
+// The checks of the two opened branches, Figure 6 of the ZKBoo paper, on messages whose elements are lawful.
 ghost use Rattle.std.specs.Prelude.{◌≡◌, ◌≤◌, length, Ok};
 ghost use Rattle.faults.specs.Numbers.{fault_in};
 ghost use Rattle.theory.specs.Messages.{length_of_work};
