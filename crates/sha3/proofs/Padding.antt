@@ -1,14 +1,16 @@
 -- Blocks, padding and output of the sponge.
-use Rattle.std.specs.Prelude.{◌≡◌, ℕ, ◌+◌, ◌-◌, ◌*◌, ◌%◌, ◌<◌, ◌≤◌, true, false, List, [], ◌∷◌, ◌++◌, length, drop, bit_or, nat_eq, slice_index, slice_set, map, refl}
+use Rattle.std.specs.Prelude.{◌≡◌, ℕ, ◌+◌, ◌-◌, ◌*◌, ◌/◌, ◌%◌, ◌<◌, ◌≤◌, true, false, List, [], ◌∷◌, ◌++◌, length, take, drop, replicate, bit_or, nat_eq, slice_index, slice_set, map, refl}
 use Rattle.std.proofs.Common.{◌∙◌, get_or, inl, inr, arith}
 use Rattle.std.specs.Int.Bits.{xor_zero_r}
-use Rattle.std.specs.List.{range_with_len}
+use Rattle.std.specs.List.{range_with_len, flat_map}
 use Rattle.std.proofs.lemmas.List.FromFn.{fill_by_all}
 use Rattle.std.proofs.lemmas.Bool.{cases_lt, eq-eqb, ne_eqb}
-use Rattle.std.proofs.lemmas.List.{append_assoc, get_or_append_left, get_or-append_right, get_or-drop, length-append, length-drop, length-replicate, get_or_past, set_at, get_or_at, replicate_more}
-use Rattle.parts.specs.Blocks.{written}
+use Rattle.std.proofs.lemmas.List.{append_assoc, get_or_append_left, get_or-append_right, get_or-drop, length-append, length-drop, length-replicate, get_or_past, take_all, set_at, get_or_at, replicate_more}
+use Rattle.parts.specs.Words.{le64}
+use Rattle.parts.specs.Blocks.{written, over_blocks}
 use Rattle.parts.proofs.Written.{blank, marked}
-use Rattle.sha3.specs.Sha3.{padding}
+use Rattle.parts.proofs.Chained.{blocks_whole}
+use Rattle.sha3.specs.Sha3.{absorbed, padding, padded, sha3_256_of}
 use Rattle.sha3.proofs.Shapes.{added_at}
 
 -- past the block nothing is added
@@ -64,6 +66,17 @@ length_padding n =
       | inl l ↦ let j : nat_eq (n % 136) 135 ≡ false = ne_eqb (n % 136) 135 (omega arith) in rw j (simp (length-append, length-replicate) (omega arith))
       | inr g ↦ let j : nat_eq (n % 136) 135 ≡ true = eq-eqb (n % 136) 135 (omega arith) in rw j (omega arith)
     ]
+
+-- s from the message's own blocks, s' from the last one
+pub whole : (m tail s s' out : List ℕ) (q : ℕ) → q ≡ length m / 136 → s ≡ over_blocks absorbed 136 (replicate 25 0) q m →
+    tail ≡ drop (136 * q) m ++ padding (length m) → s' ≡ over_blocks absorbed 136 s 1 tail → out ≡ flat_map le64 (take 4 s') → out ≡ sha3_256_of m
+unfolding padded sha3_256_of
+whole m tail s s' out q eq e t f o =
+    let size : length (m ++ padding (length m)) / 136 ≡ q + 1 = simp (length-append, length_padding) (omega arith) in
+    let n : length tail ≤ 136 = rw t (simp (length-append, length-drop, length_padding) (omega arith)) in
+    let all = take_all 136 tail n in
+    let w = blocks_whole absorbed 136 (replicate 25 0) m (padding (length m)) tail q 1 (omega arith) (all ∙ t) in
+    cc
 
 -- the lanes of a block added, and those past it as they were
 pub mixed : (a p mixed : List ℕ) → length a ≡ 25 → length p ≡ 136 → length mixed ≡ 17 →

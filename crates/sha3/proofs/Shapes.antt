@@ -2,7 +2,7 @@
 use Rattle.std.specs.Prelude.{ℕ, ◌+◌, ◌*◌, ◌/◌, ◌%◌, List, map, bit_xor, slice_index}
 use Rattle.std.proofs.Common.{◌≡◌, zero, suc, ◌<◌, Bool, true, ◌&&◌, ltb, [], ◌∷◌, length, get_or, refl, arith}
 use Rattle.std.proofs.lemmas.Bool.{and_parts, ltb-true}
-use Rattle.std.specs.List.{range_with_len}
+use Rattle.std.specs.List.{range_with_len, zip}
 use Rattle.parts.specs.Words.{le64_at}
 use Rattle.sha3.specs.Keccak.{rotl, offsets}
 
@@ -10,9 +10,16 @@ abbrev pub column_at : List ℕ → ℕ → ℕ
 column_at a x =
     bit_xor (bit_xor (bit_xor (bit_xor (slice_index a x) (slice_index a (x + 5))) (slice_index a (x + 10))) (slice_index a (x + 15))) (slice_index a (x + 20))
 
--- at each place after ρ and π: the place that π takes from, and the turn of ρ there
+-- the place that π takes from, and the turn of ρ there
+abbrev pub sources : List ℕ
+sources = map (λ i. 5 * (i % 5) + (i % 5 + 3 * (i / 5)) % 5) (range_with_len 0 25)
+
+abbrev pub turns : List ℕ
+turns = map (λ i. slice_index offsets i) sources
+
+-- both at each place after ρ and π
 abbrev pub moves : List (ℕ × ℕ)
-moves = map (λ i. (5 * (i % 5) + (i % 5 + 3 * (i / 5)) % 5, slice_index offsets (5 * (i % 5) + (i % 5 + 3 * (i / 5)) % 5))) (range_with_len 0 25)
+moves = zip sources turns
 
 abbrev pub turned_at : List ℕ → ℕ → ℕ
 turned_at a i = rotl (get_or moves i (0, 0)).1 (slice_index a (get_or moves i (0, 0)).0)

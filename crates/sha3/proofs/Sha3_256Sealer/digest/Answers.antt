@@ -1,12 +1,15 @@
-use Rattle.std.proofs.Common.{◌++◌, length, replicate, lit<}
-use Rattle.parts.proofs.Chained.{blocks_joined}
-use Rattle.sha3.specs.Sha3.{absorbed, padding, padded, sha3_256_of}
+use Rattle.std.proofs.Common.{◌≡◌, ℕ, ◌/◌, List, ◌++◌, length, refl, ap, ◌∙◌, arith}
+use Rattle.std.proofs.lemmas.List.{length-append, length-drop}
+use Rattle.parts.specs.Blocks.{over_blocks}
+use Rattle.sha3.specs.Sha3.{absorbed, padding}
+use Rattle.sha3.proofs.Padding.{length_padding, whole}
 use Rattle.sha3.proofs.Sha3_256Sealer.digest.Goals as goal
 
 pub returns : goal.returns
-unfolding padded sha3_256_of
 returns c =
     let m = c.args.message.now in
-    let p = padding (length m) in
-    let j = blocks_joined absorbed 136 (replicate 25 0) m p (c.absorb-rest.result.now ++ p) (lit< tt) (cc) in
-    cc
+    let rest = c.absorb-rest.ensures.rest in
+    let tail : List ℕ = c.absorb-rest.result.now ++ padding (length m) in
+    let one : length tail / 136 ≡ 1 = rw rest (simp (length-append, length-drop, length_padding) (omega arith)) in
+    whole m tail _ _ _ (length m / 136) refl c.absorb-rest.ensures.state (ap (λ (x : List ℕ). x ++ padding (length m)) rest)
+    (c.finish.ensures ∙ ap (λ (n : ℕ). over_blocks absorbed 136 c.absorb-rest.new.self.lanes n tail) one) c.write_words.ensures
