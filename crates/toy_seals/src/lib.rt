@@ -3,7 +3,7 @@
 
 ghost use Rattle.std.specs.Prelude.{◌≡◌, refl};
 ghost use Rattle.toy_seals.specs.Toy.{last_of, lawful, toy};
-ghost use Rattle.toy_seals.specs.Sound.{toy_sound};
+ghost use Rattle.toy_seals.specs.Sound.{lawful_sound};
 
 use seals::Sealer;
 
@@ -42,7 +42,7 @@ impl<const SIZE: usize, const MOST: usize> Sealer for Toy<SIZE, MOST> {
 
     ghost longest_is = { refl };
 
-    ghost sound = { toy_sound SIZE MOST };
+    ghost sound = { lawful_sound SIZE MOST };
 
     fn digest(&self, message: &[u8], out: &mut [u8]) {
         out.fill(last(message));
