@@ -14,7 +14,7 @@ use faults::Branch;
 use kinds::kind::ElementKind;
 use locks::limits::LONGEST_VIEW;
 use promises::round::write_round;
-use promises::tape::Tape;
+use promises::tape::LawfulTape;
 use seals::Sealer;
 
 const MOST_ROUNDS: usize = 64;
@@ -105,7 +105,7 @@ pub(crate) fn store_round<K: ElementKind, S: Sealer>(
     sealer: &S,
     lock: &OpenLock<'_, K>,
     key: &Group<'_, K>,
-    tape: &Tape<'_, K>,
+    tape: &LawfulTape<'_, K>,
     work1: &mut [u8],
     work2: &mut [u8],
     work3: &mut [u8],

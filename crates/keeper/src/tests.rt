@@ -11,7 +11,7 @@ use branches::lock::OpenLock;
 use faults::Fault;
 use kinds::kind::ElementKind;
 use promises::key::read_key;
-use promises::tape::Tape;
+use promises::tape::LawfulTape;
 use seals::Sealer;
 
 // The lengths of what a promise is given.
@@ -46,13 +46,13 @@ pub(crate) fn read_secrets<'a, K: ElementKind>(
     key: &'a [u8],
     tape: &'a [u8],
     work: &mut [u8],
-) -> Result<(Group<'a, K>, Tape<'a, K>), Fault>
+) -> Result<(Group<'a, K>, LawfulTape<'a, K>), Fault>
     requires key { length key.now ≡ length_of_key K.kind lock.now }
     requires tape { length tape.now ≡ length_of_tape K.kind lock.now }
     requires room { length_of_work K.kind lock.now ≤ length work.old }
     ensures { result ≡ map_ok (λ _. (key_of K.kind lock.now key.now, drawn_in K.kind lock.now tape.now)) (secrets_right K.kind lock.now key.now tape.now) }
 {
     let key = read_key(lock, key, work)?;
-    let tape = Tape::read(lock, tape)?;
+    let tape = LawfulTape::read(lock, tape)?;
     Ok((key, tape))
 }

@@ -2,3 +2,4 @@ pub mod Reading
 pub mod Fills
 pub mod Runs
 pub mod Rounds
+pub mod Cuts

@@ -10,7 +10,7 @@ ghost use Rattle.theory.specs.Messages.{products_at};
 ghost use Rattle.promises.specs.Drawn.{Fitting};
 
 use crate::shares::third_shares;
-use crate::tape::Tape;
+use crate::tape::LawfulTape;
 use branches::group::Group;
 use branches::lock::OpenLock;
 use kinds::kind::ElementKind;
@@ -31,7 +31,7 @@ pub(crate) fn write_front(front: &mut [u8], blind: &[u8], shares: &[u8], masks: 
 pub(crate) fn write_third_front<K: ElementKind>(
     lock: &OpenLock<'_, K>,
     key: &Group<'_, K>,
-    tape: &Tape<'_, K>,
+    tape: &LawfulTape<'_, K>,
     front: &mut [u8],
 )
     requires fitting { Fitting lock.now key.now tape.now }

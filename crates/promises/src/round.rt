@@ -8,7 +8,7 @@ ghost use Rattle.promises.specs.Drawn.{Fitting, view_on, views_on, outs_on, firs
 use crate::first::write_seals;
 use crate::fronts::{write_front, write_third_front};
 use crate::run::Trio;
-use crate::tape::Tape;
+use crate::tape::LawfulTape;
 use branches::group::Group;
 use branches::groups::group_length;
 use branches::lock::OpenLock;
@@ -20,7 +20,7 @@ use seals::Sealer;
 fn write_views<K: ElementKind>(
     lock: &OpenLock<'_, K>,
     key: &Group<'_, K>,
-    tape: &Tape<'_, K>,
+    tape: &LawfulTape<'_, K>,
     work1: &mut [u8],
     work2: &mut [u8],
     work3: &mut [u8],
@@ -56,7 +56,7 @@ pub fn write_round<K: ElementKind, S: Sealer>(
     sealer: &S,
     lock: &OpenLock<'_, K>,
     key: &Group<'_, K>,
-    tape: &Tape<'_, K>,
+    tape: &LawfulTape<'_, K>,
     work1: &mut [u8],
     work2: &mut [u8],
     work3: &mut [u8],

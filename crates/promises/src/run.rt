@@ -13,7 +13,7 @@ ghost use Rattle.theory.specs.Runs.{rerun, honest, at_outputs};
 ghost use Rattle.promises.specs.Running.{started, of_branch, wires_on, masks_on, due_on, stepped, Takes, Starts, Ends, honest_view};
 
 use crate::outputs::write_outputs;
-use crate::tape::Tape;
+use crate::tape::LawfulTape;
 use branches::group::{Elements, Group};
 use branches::groups::{group_length, put_element};
 use branches::lock::OpenLock;
@@ -77,7 +77,7 @@ impl<'a, 'w, K: ElementKind> Trio<'a, 'w, K> {
     // In front of the gates, with the third branch's shares.
     pub(crate) fn start(
         lock: &OpenLock<'_, K>,
-        tape: &Tape<'a, K>,
+        tape: &LawfulTape<'a, K>,
         third_shares: &Group<'_, K>,
         work1: &'w mut [u8],
         work2: &'w mut [u8],
