@@ -40,10 +40,11 @@ answer_is b s start L number before after x y n p q d e =
     λ i. 65 ∷ 78 ∷ n i ∷ (first i ++ second i)
 
 -- a round's end, in the keeper's values
-pub ended_is : (k : Keeper) (r : ℕ) (s : RoundState) (store : List ℕ) (table : List RoundState)
+pub ended_is : (k : Keeper) (r : ℕ) (s : RoundState) (view capacity : ℕ) (store : List ℕ) (table : List RoundState)
+    → view ≡ k.view_size → capacity ≡ k.capacity
     → store ≡ put k.store (round_at k.view_size r) (replicate (round_length k.view_size) 0) → table ≡ with_state k.table r s
-    → record { view_size = k.view_size; capacity = k.capacity; store = store; table = table } ≡ ended k r s
-ended_is k r s store table e t = λ i. record { view_size = k.view_size; capacity = k.capacity; store = e i; table = t i }
+    → record { view_size = view; capacity = capacity; store = store; table = table } ≡ ended k r s
+ended_is k r s view capacity store table v c e t = λ i. record { view_size = v i; capacity = c i; store = e i; table = t i }
 
 pub left_as : {A B : Type 0} (r : Result A Fault) (a : A) (f : A → B) (o : B) → r ≡ Ok a → f a ≡ left r f o
 left_as r a f o e = ap (λ x. left x f o) (sym e)

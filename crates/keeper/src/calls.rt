@@ -1,6 +1,6 @@
 // The keeper's calls: each only tests, takes itself apart, and hands the store on.
-ghost use Rattle.std.specs.Prelude.{◌≡◌, length};
-ghost use Rattle.theory.specs.Keeper.{made_from, state_of, round_open, answer_branch, answer_result, answer_after, after_answer, drop_result, after_drop};
+ghost use Rattle.std.specs.Prelude.{◌≡◌, ◌≤◌, length};
+ghost use Rattle.theory.specs.Keeper.{made_from, state_of, with_state, round_open, answer_branch, answer_result, answer_after, after_answer, drop_result, after_drop};
 ghost use Rattle.keeper.specs.Model.{values_of};
 
 use super::Keeper;
@@ -57,6 +57,19 @@ impl<'a> Keeper<'a> {
         Ok(branch)
     }
 
+    // Changes the record of a promised round.
+    fn mark(&mut self, round: usize, state: RoundState)
+        requires low { 1 ≤ round }
+        requires high { round ≤ length self.old.records.items }
+        ensures table { self.new.records.items ≡ with_state self.old.records.items round state }
+        ensures view { self.new.view_length ≡ self.old.view_length }
+        ensures room { self.new.capacity ≡ self.old.capacity }
+        ensures store { self.new.store.now ≡ self.old.store.now }
+        ensures named { self.new.store.ghost_name ≡ self.old.store.ghost_name }
+    {
+        self.records[round - 1] = state;
+    }
+
     // Opens the views of two branches of a round, once.
     pub fn answer(&mut self, round: usize, pick: u8, out: &mut [u8]) -> Result<(), Fault>
         ensures outcome { result ≡ answer_result (values_of self.old) round pick (length out.old) }
@@ -66,7 +79,7 @@ impl<'a> Keeper<'a> {
     {
         let branch = self.answerable(round, pick, out.len())?;
         spend(self.store, self.view_length, round, branch, out);
-        self.records[round - 1] = RoundState::Answered;
+        self.mark(round, RoundState::Answered);
         Ok(())
     }
 
@@ -78,7 +91,7 @@ impl<'a> Keeper<'a> {
     {
         self.open_round(round)?;
         end_round(self.store, self.view_length, round);
-        self.records[round - 1] = RoundState::Dropped;
+        self.mark(round, RoundState::Dropped);
         Ok(())
     }
 }
