@@ -225,8 +225,8 @@ impl<K: ElementKind> Wires<'_, K> {
         }
     }
 
-    // The next wire of a branch. Called, and not inlined, it makes a rerun of residues half as slow again.
-    #[inline(always)]
+    // The next wire of a branch. As a call of its own it makes a rerun of residues half as slow again.
+    #[inline]
     pub fn branch_gate(&mut self, branch: Branch, gate: GateRecord<'_>, product: K)
         requires fit { GateFor K.kind (length self.old.rows) (gate_of gate) }
         requires room { length self.old.rows < self.old.most }
