@@ -1,8 +1,6 @@
 // The engine's calls with buffers of their sizes.
 use crate::stop::Stop;
-use engine::{
-    Branch, ElementKind, Extracted, Fault, Keeper, Lock, PickFault, Sealer, play_round,
-};
+use engine::{Branch, ElementKind, Extracted, Fault, Keeper, Lock, PickFault, Sealer, play_round};
 use plays::{Opening, Works};
 use std::alloc::{AllocError, Global};
 
@@ -51,6 +49,12 @@ impl<S: Sealer> Player<'_, S> {
         Works::new(self.heap, [self.sizes.work; 3])
     }
 
+    // A verifier and an extractor take two slices: the third is empty.
+    fn two_works(&self) -> Result<Works, AllocError> {
+        let work = self.sizes.work;
+        Works::new(self.heap, [work, work, 0])
+    }
+
     pub fn promise<K: ElementKind>(
         &self,
         keeper: &mut Keeper<'_>,
@@ -90,7 +94,7 @@ impl<S: Sealer> Player<'_, S> {
         pick: u8,
         answer: &[u8],
     ) -> Result<Result<(), Fault>, AllocError> {
-        let mut works = self.works()?;
+        let mut works = self.two_works()?;
         Ok(works.verify::<K, S>(self.sealer, self.opening.lock, first, pick, answer))
     }
 
@@ -102,7 +106,7 @@ impl<S: Sealer> Player<'_, S> {
     ) -> Result<(Result<Extracted, PickFault>, Vec<u8>), AllocError> {
         let [one, two, three] = answers;
         let mut key = self.zeros(self.sizes.key)?;
-        let found = self.works()?.extract::<K, S>(
+        let found = self.two_works()?.extract::<K, S>(
             self.sealer,
             self.opening.lock,
             first,

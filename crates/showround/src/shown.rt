@@ -21,12 +21,25 @@ impl fmt::Display for Verdict {
     }
 }
 
-// The round that the example's pick asks for, step by step: a keeper of one round promises, then answers.
-fn show_round<K: ElementKind, S: Sealer>(
+// Two hexadecimal digits for each byte, written with no memory of their own.
+#[derive(Clone, Copy)]
+struct Hex<'a>(&'a [u8]);
+
+impl fmt::Display for Hex<'_> {
+    fn fmt<W: fmt::Write>(&self, f: &mut fmt::Formatter<W>) -> fmt::Result {
+        for byte in self.0 {
+            write!(f, "{byte:02x}")?;
+        }
+        Ok(())
+    }
+}
+
+// The round that the example's pick asks for: a keeper of one round promises, then answers. Gives both messages.
+fn keep<K: ElementKind, S: Sealer>(
     rt: &HostRuntime,
     player: &Player<'_, S>,
     pick: u8,
-) -> Result<(), Stop> {
+) -> Result<(Vec<u8>, Vec<u8>), Stop> {
     let mut store = player.store()?;
     let mut first = player.zeros(player.sizes.first)?;
     let mut answer = player.zeros(player.sizes.answer)?;
@@ -34,12 +47,19 @@ fn show_round<K: ElementKind, S: Sealer>(
     let round = player.promise::<K>(&mut keeper, first.as_mut_slice())?;
     println!(rt; "promise round {round}")?;
     keeper.answer(round, pick, answer.as_mut_slice())?;
+    Ok((first, answer))
+}
+
+// That round, step by step.
+fn show_round<K: ElementKind, S: Sealer>(
+    rt: &HostRuntime,
+    player: &Player<'_, S>,
+    pick: u8,
+) -> Result<(), Stop> {
+    let (first, answer) = keep::<K, S>(rt, player, pick)?;
     let (first, answer) = (first.as_slice(), answer.as_slice());
-    println!(rt; "first message {}", hex::encode(rt.alloc(), first)?)?;
-    println!(rt;
-        "answer to pick {pick} {}",
-        hex::encode(rt.alloc(), answer)?
-    )?;
+    println!(rt; "first message {}", Hex(first))?;
+    println!(rt; "answer to pick {pick} {}", Hex(answer))?;
     let verdict = Verdict(player.verify::<K>(first, pick, answer)?);
     println!(rt; "verify {verdict}")?;
     Ok(())
@@ -66,9 +86,7 @@ fn show_extracted<K: ElementKind, S: Sealer>(
 ) -> Result<(), Stop> {
     let (found, key) = player.extract::<K>(messages.first.as_slice(), &messages.answers)?;
     match found {
-        Ok(Extracted::Key) => {
-            println!(rt; "extract key {}", hex::encode(rt.alloc(), key.as_slice())?)?
-        }
+        Ok(Extracted::Key) => println!(rt; "extract key {}", Hex(key.as_slice()))?,
         Ok(Extracted::Collision { branch, offset }) => {
             let branch = branch.number();
             println!(rt; "extract two views of branch {branch} with one seal, unlike at {offset}")?
