@@ -27,7 +27,7 @@ module _ (K : Kind) where
   room_for n most bs below f = let h : suc n * K.width ≤ most * K.width = mul-le-mul_right K.width below in omega (arith, h, f.room)
 
   -- today a group's elements lie as wires do
-  wires_of_group : (n : ℕ) (bs : List ℕ) → wires_in K n bs ≡ group K n bs
+  pub wires_of_group : (n : ℕ) (bs : List ℕ) → wires_in K n bs ≡ group K n bs
   unfolding wires_in group
   wires_of_group zero bs = refl
   wires_of_group (suc n) bs = ap (λ (l : List (List ℕ)). take K.width bs ∷ l) (wires_of_group n (drop K.width bs))

@@ -1,5 +1,6 @@
 -- Blocks taken in, of a message and of what follows it.
 use Rattle.std.proofs.Common.{◌≡◌, ℕ, zero, suc, ◌+◌, ◌-◌, ◌*◌, ◌/◌, ◌<◌, ◌≤◌, List, ◌++◌, length, take, drop, sym, refl, ap, ◌∙◌, add-zero, add-suc, mul-one, mul-suc, mul-add, add-one, arith}
+use Rattle.std.proofs.Math.Nat.{mul-div-le, mul-add-div}
 use Rattle.std.proofs.lemmas.Nat.{div-mul-add}
 use Rattle.std.proofs.lemmas.List.{length-append, length-drop, take_at, drop_at, take-append-le, drop-append-le, drop-drop, drop-take, take-take}
 use Rattle.parts.specs.Blocks.{over_blocks}
@@ -83,4 +84,18 @@ module _ (step : List ℕ → List ℕ → List ℕ) (size : ℕ) where
       let g = ap (take (size * n)) f in
       let k = take-take (size * n) (size * n) tail (omega arith) in
       let r = blocks_rest start (m ++ x) tail q n (sym k ∙ g) in
+      cc
+
+  -- the blocks of a message, and then those of what is left of it and what follows
+  pub blocks_joined : (start m x tail : List ℕ) → 0 < size → tail ≡ drop (size * (length m / size)) m ++ x →
+      over_blocks step size (over_blocks step size start (length m / size) m) (length tail / size) tail ≡
+      over_blocks step size start (length (m ++ x) / size) (m ++ x)
+  blocks_joined start m x tail h e =
+      let q : ℕ = length m / size in
+      let whole : size * q ≤ length m = mul-div-le (length m) size in
+      let d : tail ≡ drop (size * q) (m ++ x) = e ∙ sym (drop-append-le (size * q) m x whole) in
+      let l : length (m ++ x) ≡ size * q + length tail = rw d (simp (length-append, length-drop) (omega arith)) in
+      let n : length (m ++ x) / size ≡ q + length tail / size = rw l (mul-add-div h q (length tail)) in
+      let f = blocks_front start m x q whole in
+      let r = blocks_rest start (m ++ x) tail q (length tail / size) (ap (take (size * (length tail / size))) d) in
       cc
